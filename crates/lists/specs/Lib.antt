@@ -1,0 +1,4 @@
+pub mod Choice
+pub mod Sum
+pub mod Over
+pub mod Search

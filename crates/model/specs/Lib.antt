@@ -1,0 +1,4 @@
+pub mod Limits
+pub mod Block
+pub mod Path
+pub mod Part

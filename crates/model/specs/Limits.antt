@@ -1,0 +1,50 @@
+-- The limits of a block file (document 01, "The block file"), each by its name. They stand in `decode` (File) and in `Limited` (File), and nowhere else.
+use Prim.Native.Nat.{ℕ, _*_, _-_}
+
+-- gates of a block, at most
+abbrev pub max-gates : ℕ
+max-gates = 64
+
+-- wires of a block, at most
+abbrev pub max-wires : ℕ
+max-wires = 256
+
+-- steps of a gate, at most
+abbrev pub max-steps : ℕ
+max-steps = 8
+
+-- a probability is in 256ths: this is certainty
+abbrev pub max-probability : ℕ
+max-probability = 256
+
+-- drawn delay of a gate, in ticks, at most
+abbrev pub max-delay : ℕ
+max-delay = 4095
+
+-- width of a step, in ticks, at most
+abbrev pub max-width : ℕ
+max-width = 4095
+
+-- drop of a step, at most
+abbrev pub max-drop : ℕ
+max-drop = 1000
+
+-- arrival and deadline, in ticks, at most
+abbrev pub max-time : ℕ
+max-time = 65535
+
+-- bytes of an input that the printing program reads
+abbrev pub max-bytes : ℕ
+max-bytes = 4096
+
+-- pairs of a curve, at most: each pair ends some gate's step
+abbrev pub max-pairs : ℕ
+max-pairs = max-gates * max-steps
+
+-- the greatest activity of a net, that of p = 128
+abbrev pub max-activity : ℕ
+max-activity = 32768
+
+-- gain of a pair, at most ("no pair's gain is above 63 × 32,768 × 1,000")
+abbrev pub max-gain : ℕ
+max-gain = (max-gates - 1) * max-activity * max-drop

@@ -1,0 +1,1 @@
+// The definitions to believe stand in specs/.
