@@ -1,4 +1,3 @@
-pub mod Choice
 pub mod Sum
 pub mod Over
 pub mod Search

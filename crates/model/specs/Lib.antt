@@ -1,4 +1,11 @@
 pub mod Limits
 pub mod Block
+pub mod Activity
+pub mod Gain
 pub mod Path
+pub mod InTime
+pub mod Ties
+pub mod Best
+pub mod Curve
 pub mod Part
+pub mod Slack
