@@ -1,0 +1,3 @@
+pub mod Bool
+pub mod Table
+pub mod Over

@@ -9,3 +9,10 @@ pub mod Best
 pub mod Curve
 pub mod Part
 pub mod Slack
+pub mod Netlist
+pub mod Field
+pub mod File
+pub mod Refusal
+pub mod Answer
+pub mod Printout
+pub mod Arrays

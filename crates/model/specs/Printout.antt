@@ -1,0 +1,100 @@
+-- What the printing program writes (document 01, "The printing program"): decimals and words as bytes, a line each.
+use mathlib.Core.List.{List, [], _∷_, _++_}
+use mathlib.Core.Bool.{Bool, true, false}
+use mathlib.Core.Path.{_≡_}
+use Prim.Native.Nat.{ℕ, zero, suc, _+_, _/_, _%_}
+use lib.Dec.{ltb}
+use lib.IntN.{ℤ, pos, negsuc}
+use lib.ListN.{length, getD, take, replicate}
+use Rattle.lists.specs.Over.{build}
+use Rattle.model.specs.Limits.{max-gates, max-bytes}
+use Rattle.model.specs.Block.{Block, gate, gate-count}
+use Rattle.model.specs.Gain.{saving}
+use Rattle.model.specs.Slack.{slack, start, spare}
+use Rattle.model.specs.Refusal.{WellFormed}
+use Rattle.model.specs.Answer.{Answer, accepted, refusal, AnswersBest}
+
+-- the digit 0, as a byte
+abbrev pub digit-zero : ℕ
+digit-zero = 48
+
+-- the decimal digits of a number, with no needless 0 in front; the number that counts down is more than the digits there are
+unfoldable pub digits-by : ℕ → ℕ → List ℕ
+digits-by zero n = []
+digits-by (suc f) n =
+    elim (ltb n 10) [
+      | true ↦ (digit-zero + n) ∷ []
+      | false ↦ digits-by f (n / 10) ++ (digit-zero + n % 10) ∷ []
+    ]
+
+unfoldable pub digits : ℕ → List ℕ
+digits n = digits-by (suc n) n
+
+-- a signed number: a minus sign in front of a negative one
+abbrev pub signed : ℤ → List ℕ
+signed (pos n) = digits n
+signed (negsuc n) = 45 ∷ digits (suc n)
+
+-- the words of the printout, each with the blank behind it
+abbrev pub word-gates : List ℕ
+word-gates = 103 ∷ 97 ∷ 116 ∷ 101 ∷ 115 ∷ 32 ∷ []
+
+abbrev pub word-wires : List ℕ
+word-wires = 119 ∷ 105 ∷ 114 ∷ 101 ∷ 115 ∷ 32 ∷ []
+
+abbrev pub word-start : List ℕ
+word-start = 115 ∷ 116 ∷ 97 ∷ 114 ∷ 116 ∷ 32 ∷ []
+
+abbrev pub word-spare : List ℕ
+word-spare = 115 ∷ 112 ∷ 97 ∷ 114 ∷ 101 ∷ 32 ∷ []
+
+abbrev pub word-saving : List ℕ
+word-saving = 115 ∷ 97 ∷ 118 ∷ 105 ∷ 110 ∷ 103 ∷ 32 ∷ []
+
+abbrev pub word-refused : List ℕ
+word-refused = 114 ∷ 101 ∷ 102 ∷ 117 ∷ 115 ∷ 101 ∷ 100 ∷ 32 ∷ []
+
+abbrev pub blank : List ℕ
+blank = 32 ∷ []
+
+abbrev pub line-end : List ℕ
+line-end = 10 ∷ []
+
+-- "The first three lines give the counts of gates and wires, start and spare, and the saving."
+unfoldable pub head-lines : Block → List ℕ → List ℕ
+head-lines B x =
+    word-gates ++ digits (gate-count B) ++ blank ++ word-wires ++ digits (length (B .wires)) ++ line-end
+    ++ word-start ++ digits (start B) ++ blank ++ word-spare ++ signed (spare B) ++ line-end
+    ++ word-saving ++ digits (saving B x) ++ line-end
+
+-- "Each gate line is number, drawn delay, increase, slack before increases."
+unfoldable pub gate-line : Block → List ℕ → ℕ → List ℕ
+gate-line B x g =
+    digits g ++ blank ++ digits (gate B g .delay) ++ blank ++ digits (getD x g 0) ++ blank ++ signed (slack B g) ++ line-end
+
+-- the lines of the first n gates, in order
+unfoldable pub gate-lines : Block → List ℕ → ℕ → List ℕ
+gate-lines B x zero = []
+gate-lines B x (suc n) = gate-lines B x n ++ gate-line B x n
+
+unfoldable pub block-lines : Block → List ℕ → List ℕ
+block-lines B x = head-lines B x ++ gate-lines B x (gate-count B)
+
+-- "A refusal is one line: `refused 12 0`, number then place."
+unfoldable pub refusal-line : ℕ → ℕ → List ℕ
+refusal-line k p = word-refused ++ digits k ++ blank ++ digits p ++ line-end
+
+-- The printout of a file: from the best increases, to a slice that is long enough for any block.
+pub data Printout (file text : List ℕ) : Type 0 where
+  refused : (k p : ℕ) (after : List ℕ)
+      → AnswersBest file (replicate max-gates 0) (refusal k p) after
+      → text ≡ refusal-line k p
+      → Printout file text
+  printed : (B : Block) (after : List ℕ) → WellFormed file B
+      → AnswersBest file (replicate max-gates 0) (accepted (saving B (take (gate-count B) after) ∷ gate-count B ∷ [])) after
+      → text ≡ block-lines B (take (gate-count B) after)
+      → Printout file text
+
+-- What the program writes: "it reads standard input, of which the first 4,096 bytes decide".
+abbrev pub Prints : List ℕ → List ℕ → Type 0
+Prints input text = Printout (take max-bytes input) text
