@@ -1,0 +1,5 @@
+pub mod Ties
+pub mod Best
+pub mod Curve
+pub mod Gain
+pub mod Path
