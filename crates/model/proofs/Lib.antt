@@ -3,3 +3,8 @@ pub mod Best
 pub mod Curve
 pub mod Gain
 pub mod Path
+pub mod Signed
+pub mod Source
+pub mod Turned
+pub mod Slack
+pub mod Answer

@@ -1,8 +1,8 @@
 -- What each call answers, and what the lent slices hold afterwards (document 01, "Refusals and their places"; demands 1 to 3).
--- Each `Answers..` below is the table of refusals for one call, a case a line, in the table's order. Proofs/Answer shows that a call has one answer at most.
+-- Each `Answers..` below is the table of refusals for one call, line after line in the table's order. That a call has one outcome at most is a law (proofs/Answer).
 use mathlib.Core.Path.{_≡_}
 use mathlib.Core.List.{List, [], _∷_, map}
-use Prim.Native.Nat.{ℕ, _+_, _≤_, _<_}
+use Prim.Native.Nat.{ℕ, _+_, _<_}
 use lib.IntN.{ℤ, pos}
 use lib.Signed.{_<ℤ_}
 use lib.ListN.{length, getD, take}
@@ -20,7 +20,7 @@ use Rattle.model.specs.Limits.{max-pairs}
 use Rattle.model.specs.Block.{Block, gate, gate-count, first, last, widths}
 use Rattle.model.specs.Path.{Path}
 use Rattle.model.specs.Gain.{saving}
-use Rattle.model.specs.InTime.{slowed, InTime}
+use Rattle.model.specs.InTime.{slowed}
 use Rattle.model.specs.Best as BestList
 use Rattle.model.specs.Curve.{Pair, IsCurve}
 use Rattle.model.specs.Part.{SeriesParallel}
@@ -81,108 +81,95 @@ abbrev pub judge-answer : Judge.JudgeAnswer → Answer
 judge-answer (Judge.the-variants.Accepted s) = accepted (s ∷ [])
 judge-answer (Judge.the-variants.Refused r) = refusal-answer r
 
--- The slacks of a file: "for slacks only 1 to 10 occur".
-pub data AnswersSlacks (file : List ℕ) (lent : List ℤ) (answer : Answer) (after : List ℤ) : Type 0 where
-  ill-formed : (k p : ℕ) → IllFormed file k p → answer ≡ refusal k p → after ≡ lent → AnswersSlacks file lent answer after
-  too-short : (B : Block) → WellFormed file B
-      → length lent < gate-count B
-      → answer ≡ refusal 10 (gate-count B)
-      → after ≡ lent
-      → AnswersSlacks file lent answer after
-  given : (B : Block) → WellFormed file B
-      → gate-count B ≤ length lent
-      → answer ≡ accepted (gate-count B ∷ [])
-      → after ≡ over (build (gate-count B) (slack B)) lent
-      → AnswersSlacks file lent answer after
+-- What a call leaves: its answer, and what the memory lent to it holds afterwards.
+pub record Outcome (S : Type 0) : Type 0 where
+  pub answer : Answer
+  pub memory : S
 
--- The verdict on a proposed list: the first n elements of the lent slice, of which nothing is changed. Judging "needs no series-parallel block".
-pub data AnswersJudge (file lent : List ℕ) (answer : Answer) : Type 0 where
-  ill-formed : (k p : ℕ) → IllFormed file k p → answer ≡ refusal k p → AnswersJudge file lent answer
-  too-short : (B : Block) → WellFormed file B
-      → length lent < gate-count B
-      → answer ≡ refusal 10 (gate-count B)
-      → AnswersJudge file lent answer
-  beyond-widths : (B : Block) (g : ℕ) → WellFormed file B
-      → gate-count B ≤ length lent
-      → Lowest (λ (h : ℕ). (h < gate-count B) × (widths (gate B h .steps) < getD lent h 0)) g
-      → answer ≡ refusal 13 g
-      → AnswersJudge file lent answer
-  late : (B : Block) (t : ℕ) → WellFormed file B
-      → gate-count B ≤ length lent
-      → ((g : ℕ) → g < gate-count B → getD lent g 0 ≤ widths (gate B g .steps))
-      → Path (B .wires) (slowed B lent) (first B) (last B) t
-      → B .deadline < B .arrival + t
-      → answer ≡ refusal 14 0
-      → AnswersJudge file lent answer
-  in-time : (B : Block) → WellFormed file B
-      → gate-count B ≤ length lent
-      → InTime B (take (gate-count B) lent)
-      → answer ≡ accepted (saving B (take (gate-count B) lent) ∷ [])
-      → AnswersJudge file lent answer
+-- One line of the table of refusals: where `when` holds of a place, that refusal with that place and the lent memory unchanged; where it holds of none, what the further lines say.
+pub data Line {S : Type 0} (lent : S) (k : ℕ) (when : ℕ → Type 0) (further : Outcome S → Type 0) (o : Outcome S) : Type 0 where
+  fits : (p : ℕ) → when p → o ≡ record { answer = refusal k p; memory = lent } → Line lent k when further o
+  passes : ((p : ℕ) → ¬ (when p)) → further o → Line lent k when further o
 
--- The curve of a file, its widths and gains to two lent slices of at least 512 elements each. The block's own deadline plays no part.
-pub data AnswersCurve (file lent-widths lent-gains : List ℕ) (answer : Answer) (after-widths after-gains : List ℕ) : Type 0 where
-  ill-formed : (k p : ℕ) → IllFormed file k p
-      → answer ≡ refusal k p
-      → after-widths ≡ lent-widths
-      → after-gains ≡ lent-gains
-      → AnswersCurve file lent-widths lent-gains answer after-widths after-gains
-  widths-too-short : (B : Block) → WellFormed file B
-      → length lent-widths < max-pairs
-      → answer ≡ refusal 10 max-pairs
-      → after-widths ≡ lent-widths
-      → after-gains ≡ lent-gains
-      → AnswersCurve file lent-widths lent-gains answer after-widths after-gains
-  gains-too-short : (B : Block) → WellFormed file B
-      → max-pairs ≤ length lent-widths
-      → length lent-gains < max-pairs
-      → answer ≡ refusal 10 max-pairs
-      → after-widths ≡ lent-widths
-      → after-gains ≡ lent-gains
-      → AnswersCurve file lent-widths lent-gains answer after-widths after-gains
-  not-series-parallel : (B : Block) → WellFormed file B
-      → max-pairs ≤ length lent-widths
-      → max-pairs ≤ length lent-gains
-      → ¬ (SeriesParallel B)
-      → answer ≡ refusal 11 0
-      → after-widths ≡ lent-widths
-      → after-gains ≡ lent-gains
-      → AnswersCurve file lent-widths lent-gains answer after-widths after-gains
-  given : (B : Block) (start at-start : ℕ) (pairs : List Pair) → WellFormed file B
-      → max-pairs ≤ length lent-widths
-      → max-pairs ≤ length lent-gains
+-- a line whose place is settled beforehand
+abbrev pub At : ℕ → Type 0 → ℕ → Type 0
+At place when p = (p ≡ place) × when
+
+-- The lines 1 to 9, which every call has in common; then, of the block that the file holds, what the further lines say.
+pub data Judged {S : Type 0} (file : List ℕ) (lent : S) (further : Block → Outcome S → Type 0) (o : Outcome S) : Type 0 where
+  ill-formed : (k p : ℕ) → IllFormed file k p → o ≡ record { answer = refusal k p; memory = lent } → Judged file lent further o
+  well-formed : (B : Block) → WellFormed file B → further B o → Judged file lent further o
+
+-- an accepted answer with its values, and the memory afterwards
+abbrev pub Gives : {S : Type 0} → List ℕ → S → Outcome S → Type 0
+Gives values after o = o ≡ record { answer = accepted values; memory = after }
+
+-- 10: a lent slice is shorter than needed
+abbrev pub Shorter : {A : Type 0} → List A → ℕ → ℕ → Type 0
+Shorter lent needed = At needed (length lent < needed)
+
+-- Slacks, to a lent slice of signed numbers: "for slacks only 1 to 10 occur".
+abbrev pub AnswersSlacks : List ℕ → List ℤ → Outcome (List ℤ) → Type 0
+AnswersSlacks file lent =
+    Judged file lent
+    (λ (B : Block).
+    Line lent 10 (Shorter lent (gate-count B)) (Gives (gate-count B ∷ []) (over (build (gate-count B) (slack B)) lent)))
+
+-- the increase of gate g exceeds its widths
+abbrev pub Exceeds : Block → List ℕ → ℕ → Type 0
+Exceeds B x g = (g < gate-count B) × (widths (gate B g .steps) < getD x g 0)
+
+-- some path is not in time under the increases x
+abbrev pub PathNotInTime : Block → List ℕ → Type 0
+PathNotInTime B x = (t : ℕ) × Path (B .wires) (slowed B x) (first B) (last B) t × (B .deadline < B .arrival + t)
+
+-- Judging, which reads the first n elements of the proposed list, changes nothing, and needs no series-parallel block (demand 2).
+abbrev pub AnswersJudge : List ℕ → List ℕ → Outcome (List ℕ) → Type 0
+AnswersJudge file lent =
+    Judged file lent
+    (λ (B : Block).
+    let x = take (gate-count B) lent in
+    Line lent 10 (Shorter lent (gate-count B))
+    (Line lent 13 (Lowest (Exceeds B x)) (Line lent 14 (At 0 (PathNotInTime B x)) (Gives (saving B x ∷ []) lent))))
+
+-- the two slices that a curve's widths and gains go to
+pub record Slices : Type 0 where
+  pub for-widths : List ℕ
+  pub for-gains : List ℕ
+
+-- the curve of the block, its pairs in front of the two slices
+pub data GivesCurve (B : Block) (lent : Slices) (o : Outcome Slices) : Type 0 where
+  curve : (start at-start : ℕ) (pairs : List Pair)
       → SeriesParallel B
       → IsCurve B start at-start pairs
-      → answer ≡ accepted (start ∷ at-start ∷ length pairs ∷ [])
-      → after-widths ≡ over (map (λ (p : Pair). p .width) pairs) lent-widths
-      → after-gains ≡ over (map (λ (p : Pair). p .gain) pairs) lent-gains
-      → AnswersCurve file lent-widths lent-gains answer after-widths after-gains
+      → Gives (start ∷ at-start ∷ length pairs ∷ [])
+      (record {
+        for-widths = over (map (λ (p : Pair). p .width) pairs) (lent .for-widths);
+        for-gains = over (map (λ (p : Pair). p .gain) pairs) (lent .for-gains);
+      })
+      o
+      → GivesCurve B lent o
 
--- The best increases of a file (demand 3).
-pub data AnswersBest (file lent : List ℕ) (answer : Answer) (after : List ℕ) : Type 0 where
-  ill-formed : (k p : ℕ) → IllFormed file k p → answer ≡ refusal k p → after ≡ lent → AnswersBest file lent answer after
-  too-short : (B : Block) → WellFormed file B
-      → length lent < gate-count B
-      → answer ≡ refusal 10 (gate-count B)
-      → after ≡ lent
-      → AnswersBest file lent answer after
-  not-series-parallel : (B : Block) → WellFormed file B
-      → gate-count B ≤ length lent
-      → ¬ (SeriesParallel B)
-      → answer ≡ refusal 11 0
-      → after ≡ lent
-      → AnswersBest file lent answer after
-  late : (B : Block) → WellFormed file B
-      → gate-count B ≤ length lent
-      → SeriesParallel B
-      → spare B <ℤ pos 0
-      → answer ≡ refusal 12 0
-      → after ≡ lent
-      → AnswersBest file lent answer after
-  given : (B : Block) (x : List ℕ) → WellFormed file B
-      → gate-count B ≤ length lent
-      → SeriesParallel B
+-- The curve, to two lent slices of at least 512 elements each. The block's own deadline plays no part.
+abbrev pub AnswersCurve : List ℕ → Slices → Outcome Slices → Type 0
+AnswersCurve file lent =
+    Judged file lent
+    (λ (B : Block).
+    Line lent 10 (Shorter (lent .for-widths) max-pairs)
+    (Line lent 10 (Shorter (lent .for-gains) max-pairs) (Line lent 11 (At 0 (¬ (SeriesParallel B))) (GivesCurve B lent))))
+
+-- the best list of the block in front of the slice
+pub data GivesBest (B : Block) (lent : List ℕ) (o : Outcome (List ℕ)) : Type 0 where
+  best : (x : List ℕ) → SeriesParallel B
       → BestList.Best B x
-      → answer ≡ accepted (saving B x ∷ gate-count B ∷ [])
-      → after ≡ over x lent
-      → AnswersBest file lent answer after
+      → Gives (saving B x ∷ gate-count B ∷ []) (over x lent) o
+      → GivesBest B lent o
+
+-- The best increases (demand 3): 11 is "not series-parallel", 12 is "late".
+abbrev pub AnswersBest : List ℕ → List ℕ → Outcome (List ℕ) → Type 0
+AnswersBest file lent =
+    Judged file lent
+    (λ (B : Block).
+    Line lent 10 (Shorter lent (gate-count B))
+    (Line lent 11 (At 0 (¬ (SeriesParallel B)))
+    (Line lent 12 (At 0 (SeriesParallel B × (spare B <ℤ pos 0))) (GivesBest B lent))))

@@ -2,9 +2,13 @@
 use mathlib.Core.Path.{_≡_}
 use mathlib.Core.List.{List}
 use Prim.Native.Nat.{ℕ, _+_, _≤_, _<_}
-use lib.ListN.{length, getD}
+use lib.ListN.{length, getD, replicate}
 use Rattle.model.specs.Block.{Block, gate, gate-count, first, last, widths}
 use Rattle.model.specs.Path.{Path, Longest}
+
+-- the list that slows none of n gates
+abbrev pub no-increase : ℕ → List ℕ
+no-increase n = replicate n 0
 
 -- the delay of gate g as drawn
 abbrev pub drawn : Block → ℕ → ℕ

@@ -5,14 +5,14 @@ use mathlib.Core.Path.{_≡_}
 use Prim.Native.Nat.{ℕ, zero, suc, _+_, _/_, _%_}
 use lib.Dec.{ltb}
 use lib.IntN.{ℤ, pos, negsuc}
-use lib.ListN.{length, getD, take, replicate}
-use Rattle.lists.specs.Over.{build}
+use lib.ListN.{length, getD, take}
 use Rattle.model.specs.Limits.{max-gates, max-bytes}
 use Rattle.model.specs.Block.{Block, gate, gate-count}
 use Rattle.model.specs.Gain.{saving}
+use Rattle.model.specs.InTime.{no-increase}
 use Rattle.model.specs.Slack.{slack, start, spare}
 use Rattle.model.specs.Refusal.{WellFormed}
-use Rattle.model.specs.Answer.{Answer, accepted, refusal, AnswersBest}
+use Rattle.model.specs.Answer.{accepted, refusal, AnswersBest}
 
 -- the digit 0, as a byte
 abbrev pub digit-zero : ℕ
@@ -84,14 +84,15 @@ block-lines B x = head-lines B x ++ gate-lines B x (gate-count B)
 unfoldable pub refusal-line : ℕ → ℕ → List ℕ
 refusal-line k p = word-refused ++ digits k ++ blank ++ digits p ++ line-end
 
--- The printout of a file: from the best increases, to a slice that is long enough for any block.
+-- The printout of a file: from the outcome of the best increases, to a slice that is long enough for any block.
 pub data Printout (file text : List ℕ) : Type 0 where
   refused : (k p : ℕ) (after : List ℕ)
-      → AnswersBest file (replicate max-gates 0) (refusal k p) after
+      → AnswersBest file (no-increase max-gates) (record { answer = refusal k p; memory = after })
       → text ≡ refusal-line k p
       → Printout file text
   printed : (B : Block) (after : List ℕ) → WellFormed file B
-      → AnswersBest file (replicate max-gates 0) (accepted (saving B (take (gate-count B) after) ∷ gate-count B ∷ [])) after
+      → AnswersBest file (no-increase max-gates)
+      (record { answer = accepted (saving B (take (gate-count B) after) ∷ gate-count B ∷ []); memory = after })
       → text ≡ block-lines B (take (gate-count B) after)
       → Printout file text
 
