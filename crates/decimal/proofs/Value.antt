@@ -1,0 +1,101 @@
+-- That `digits` is the decimal notation: its bytes are digits, no needless 0 stands in front, the value of the digits is the number, and no other such digits have that value.
+-- The idea: induction by tenths for `digits`; for other digits, from the front on, each one more makes `digits` of the value so far longer by it.
+-- Assumes nothing.
+use mathlib.Core.Path.{_≡_, refl, sym, _∙_, ap}
+use mathlib.Core.Logic.{⊎-elim}
+use mathlib.Core.List.{List, [], _∷_, _++_, append-nil, List·Memᴰ, List·Memᴰ·head, List·Memᴰ·tail, List·Memᴰ·append-cases, List·Memᴰ·eq-of-singleton}
+use Prim.Native.Nat.{ℕ, _+_, _-_, _*_, _/_, _%_, _<_, _≤_}
+use native.Mathlib.Omega.{arith}
+use lib.ListN.{length, getD, List·getD-append}
+use lib.Seq.{append-snoc}
+use Rattle.lists.proofs.Compare.{le-or-lt}
+use Rattle.model.specs.Printout.{digit-zero, digits}
+use Rattle.decimal.proofs.Digits.{by-tenths, one-digit, more-digits, length-one, some-digit}
+
+-- a byte that is one of the ten digits
+abbrev pub Digit : ℕ → Type 0
+Digit b = (digit-zero ≤ b) × (b ≤ digit-zero + 9)
+
+pub all-digits : (n b : ℕ) → List·Memᴰ b (digits n) → Digit b
+all-digits n =
+    by-tenths (λ (m : ℕ). (b : ℕ) → List·Memᴰ b (digits m) → Digit b)
+    (λ (m : ℕ) (h : m < 10) (b : ℕ) (i : List·Memᴰ b (digits m)).
+    let e = List·Memᴰ·eq-of-singleton (rw (one-digit m h) at i) in omega arith)
+    (λ (m : ℕ) (h : 10 ≤ m) (tenth : (b : ℕ) → List·Memᴰ b (digits (m / 10)) → Digit b) (b : ℕ) (i : List·Memᴰ b (digits m)).
+    ⊎-elim (tenth b)
+    (λ (l : List·Memᴰ b ((digit-zero + m % 10) ∷ [])). let e = List·Memᴰ·eq-of-singleton l in omega arith)
+    (List·Memᴰ·append-cases (digits (m / 10)) (rw (more-digits m h) at i)))
+    n
+
+-- no needless 0 stands in front
+pub front-above-zero : (n : ℕ) → 0 < n → digit-zero < getD (digits n) 0 0
+front-above-zero =
+    by-tenths (λ (m : ℕ). 0 < m → digit-zero < getD (digits m) 0 0)
+    (λ (m : ℕ) (h : m < 10) (l : 0 < m). rw (one-digit m h) (omega arith))
+    (λ (m : ℕ) (h : 10 ≤ m) (tenth : 0 < m / 10 → digit-zero < getD (digits (m / 10)) 0 0) (l : 0 < m).
+    rw (more-digits m h, List·getD-append (digits (m / 10)) ((digit-zero + m % 10) ∷ []) 0 0 (some-digit (m / 10))) (tenth (omega arith)))
+
+-- The value of digits, read from the front: ten times what stands before, and the digit.
+unfoldable pub value-after : ℕ → List ℕ → ℕ
+value-after v [] = v
+value-after v (d ∷ ds) = value-after (v * 10 + (d - digit-zero)) ds
+
+abbrev pub value : List ℕ → ℕ
+value ds = value-after 0 ds
+
+value-last : (v : ℕ) (ds : List ℕ) (d : ℕ) → value-after v (ds ++ d ∷ []) ≡ value-after v ds * 10 + (d - digit-zero)
+unfolding value-after
+value-last v [] d = refl
+value-last v (x ∷ ds) d = value-last (v * 10 + (x - digit-zero)) ds d
+
+pub value-digits : (n : ℕ) → value (digits n) ≡ n
+unfolding value-after
+value-digits =
+    by-tenths (λ (m : ℕ). value (digits m) ≡ m)
+    (λ (m : ℕ) (h : m < 10). rw (one-digit m h) (omega arith))
+    (λ (m : ℕ) (h : 10 ≤ m) (tenth : value (digits (m / 10)) ≡ m / 10).
+    rw (more-digits m h, value-last 0 (digits (m / 10)) (digit-zero + m % 10), tenth) (omega arith))
+
+-- digits as a person writes them: at least one, each of the ten, and no 0 in front of others
+pub record Decimal (ds : List ℕ) : Type 0 where
+  pub some : 1 ≤ length ds
+  pub all : (b : ℕ) → List·Memᴰ b ds → Digit b
+  pub front : 1 < length ds → digit-zero < getD ds 0 0
+
+pub digits-decimal : (n : ℕ) → Decimal (digits n)
+digits-decimal n =
+    record {
+      some = some-digit n;
+      all = all-digits n;
+      front = λ (h : 1 < length (digits n)).
+          front-above-zero n
+          (⊎-elim (λ (l : 1 ≤ n). l) (λ (l : n < 1). absurd (omega (arith, length-one n (omega arith)))) (le-or-lt 1 n));
+    }
+
+digits-after : (v : ℕ) (ds : List ℕ) → 0 < v → ((b : ℕ) → List·Memᴰ b ds → Digit b) → digits (value-after v ds) ≡ digits v ++ ds
+unfolding value-after
+digits-after v [] h all = sym (append-nil (digits v))
+digits-after v (d ∷ ds) h all =
+    let is = all d (List·Memᴰ·head refl) in
+    let w : ℕ = v * 10 + (d - digit-zero) in
+    let front : w / 10 ≡ v = omega arith in
+    let last : digit-zero + w % 10 ≡ d = omega arith in
+    digits-after w ds (omega arith) (λ (b : ℕ) (i : List·Memᴰ b ds). all b (List·Memᴰ·tail i))
+    ∙ ap (λ (xs : List ℕ). xs ++ ds) (more-digits w (omega arith))
+    ∙ rw (front, last) (append-snoc (digits v) d ds)
+
+-- no other digits have that value
+pub digits-value : (ds : List ℕ) → Decimal ds → digits (value ds) ≡ ds
+unfolding value-after
+digits-value [] r = absurd (omega (arith, r .some))
+digits-value (d ∷ []) r =
+    let is = r .all d (List·Memᴰ·head refl) in
+    let e : digit-zero + (0 * 10 + (d - digit-zero)) ≡ d = omega arith in
+    one-digit (0 * 10 + (d - digit-zero)) (omega arith) ∙ ap (λ (b : ℕ). b ∷ []) e
+digits-value (d ∷ e ∷ ds) r =
+    let is = r .all d (List·Memᴰ·head refl) in
+    let above : digit-zero < d = r .front (omega arith) in
+    let v : ℕ = 0 * 10 + (d - digit-zero) in
+    let f : digit-zero + v ≡ d = omega arith in
+    digits-after v (e ∷ ds) (omega arith) (λ (b : ℕ) (i : List·Memᴰ b (e ∷ ds)). r .all b (List·Memᴰ·tail i))
+    ∙ rw (one-digit v (omega arith), f)

@@ -1,0 +1,97 @@
+-- `decimal::write_digits` meets its contract. The loop's invariant: the first i digits are pasted over what stood from `at` on. Where they do not fit, it answers before the loop.
+-- Assumes nothing.
+use mathlib.Core.Path.{_≡_}
+use Prim.Native.Nat.{_-_, _≤_}
+use native.Mathlib.Numerals.{add-one}
+use native.Mathlib.Omega.{arith}
+use borrow.Author.Needs.{needs}
+use lib.ListN.{length, length-set}
+use lib.Seq.{paste, paste-zero, paste-suc}
+use Rattle.model.specs.Printout.{digits}
+use Rattle.decimal.proofs.Placed.{written, not-written}
+use Rattle.decimal.proofs.write_digits.Statement.{statement}
+use Rattle.decimal.proofs.write_digits.Tie as tie
+
+abbrev Inv-loop : tie.InvT-loop
+Inv-loop n out₀ at count i₀ out i = (i ≤ count) × (length out ≡ length out₀) × (out ≡ paste out₀ at (digits n) i)
+
+abbrev μ-loop : tie.MeasureT-loop
+μ-loop n out₀ at count i₀ out i = count - i
+
+digit-count-requires : tie.Need-digit-count-requires Inv-loop μ-loop
+digit-count-requires c κs = search needs
+
+returns : tie.Need-returns Inv-loop μ-loop
+returns c = not-written _ _ _ (omega arith)
+
+sub-if2 : tie.Need-sub-if2 Inv-loop μ-loop
+sub-if2 c = omega arith
+
+returns-2 : tie.Need-returns-2 Inv-loop μ-loop
+returns-2 c = not-written _ _ _ (omega arith)
+
+loop-holds : tie.Need-loop-holds Inv-loop μ-loop
+loop-holds c =
+    let start = c .before .before .before .before .args in
+    (omega arith, search needs, paste-zero (start .out .now) (start .at) (digits (start .n)))
+
+digit-at-requires : tie.Need-digit-at-requires Inv-loop μ-loop
+digit-at-requires c κs = omega arith
+
+add-out : tie.Need-add-out Inv-loop μ-loop
+add-out c = omega arith
+
+slice-write-out : tie.Need-slice-write-out Inv-loop μ-loop
+slice-write-out c = omega arith
+
+add-i : tie.Need-add-i Inv-loop μ-loop
+add-i c = omega arith
+
+loop-less : tie.Need-loop-less Inv-loop μ-loop
+loop-less c = omega arith
+
+loop-again : tie.Need-loop-again Inv-loop μ-loop
+loop-again c =
+    let start = c .before .before .before .before .before .before .before .args in
+    let i = c .before .before .loop .i in
+    let inv = c .before .before .loop .inv in (
+      omega arith,
+      simp length-set (inv .1),
+      rw (inv .2, c .digit-at .ensures, add-one i)
+          (paste-suc (start .out .now) (start .at) (digits (start .n)) i 0 (omega arith) (omega arith)),
+    )
+
+add-result : tie.Need-add-result Inv-loop μ-loop
+add-result c = omega arith
+
+same-length : tie.Need-same-length Inv-loop μ-loop
+same-length c = search needs
+
+returns-3 : tie.Need-returns-3 Inv-loop μ-loop
+returns-3 c =
+    let start = c .before .before .before .before .before .before .args in
+    let i = c .before .loop .i in
+    let all : i ≡ length (digits (start .n)) = omega arith in
+    let stops = written (digits (start .n)) (start .at) (start .out .now) (omega arith) in
+    (omega arith, cc)
+
+pub write-digits-spec : {M : Type 1} → statement M
+write-digits-spec =
+    tie.close
+    (tie.spec
+    Inv-loop
+    μ-loop
+    digit-count-requires
+    returns
+    sub-if2
+    returns-2
+    loop-holds
+    digit-at-requires
+    add-out
+    slice-write-out
+    add-i
+    loop-less
+    loop-again
+    add-result
+    same-length
+    returns-3)

@@ -1,0 +1,41 @@
+-- From the wires of the arrays to the block that has them: what the functions find is what the answers say.
+-- Assumes nothing.
+use mathlib.Core.Path.{_≡_}
+use mathlib.Core.Bool.{true, false}
+use mathlib.Core.List.{List}
+use Prim.Native.Nat.{ℕ, _<_}
+use Rattle.model.specs.Block.{Block, Joined}
+use Rattle.model.specs.Refusal.{OnLoop}
+use Rattle.network.specs.Wires.{Lent, Wired, InArrays}
+use Rattle.network.specs.Order.{Order}
+use Rattle.network.specs.Marks.{First}
+use Rattle.network.specs.Square.{Paired, PairMarks, Closed}
+use Rattle.network.specs.Judged.{OrderFound}
+use Rattle.network.proofs.Reach.{Reach}
+use Rattle.network.proofs.Marks.{first-same}
+use Rattle.network.proofs.Square.{marked-reaches, reaching-marked}
+use Rattle.network.proofs.Wires.{wired-gates, joined-wired, wired-loop, loop-wired}
+
+module _ (B : Block) (n m : ℕ) (sources targets : List ℕ) (I : InArrays B n m sources targets) where
+  pub order-found : (order : List ℕ) → Order (Wired m sources targets) n order → OrderFound B order true
+  order-found order O =
+      rw (I .gates)
+      (record {
+        place = O .place;
+        names-gate = O .names-gate;
+        place-of = O .place-of;
+        has-place = O .has-place;
+        stands-there = O .stands-there;
+        forward = λ a b j. O .forward a b (joined-wired B n m sources targets I a b j);
+      })
+
+  pub loop-found : (order : List ℕ) → (g : ℕ) × Reach (Wired m sources targets) g g → OrderFound B order false
+  loop-found order r = (r .0, wired-loop B n m sources targets I (r .0) (r .1))
+
+  -- the first gate whose pair with itself is marked is the lowest on a loop
+  pub first-on-loop : Lent n m sources targets → (start square : List ℕ) → PairMarks (Wired m sources targets) n start → Closed start n n square
+      → (r : ℕ) → First (λ (g : ℕ). Paired square g g) n r → First (OnLoop B) n r
+  first-on-loop L start square M C =
+      first-same (λ (g : ℕ). Paired square g g) (OnLoop B) n
+      (λ g h p. wired-loop B n m sources targets I g (marked-reaches (Wired m sources targets) n (wired-gates L) start M square C g g h h p))
+      (λ g h x. reaching-marked (Wired m sources targets) n (wired-gates L) start M square C g g h h (loop-wired B n m sources targets I g x))

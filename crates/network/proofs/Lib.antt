@@ -1,0 +1,10 @@
+pub mod Reach
+pub mod Loop
+pub mod Pigeonhole
+pub mod Rounds
+pub mod Marks
+pub mod Square
+pub mod Wires
+pub mod Misplaced
+pub mod Answers
+pub mod Judgement

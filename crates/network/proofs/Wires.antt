@@ -1,0 +1,132 @@
+-- The wires of the arrays, one after another, and as the wires of a block.
+-- Assumes nothing.
+use mathlib.Core.Path.{_≡_, refl, sym, _∙_, ap, subst}
+use mathlib.Core.Logic.{_⊎_, inl, inr, ⊎-elim, ⊎-map}
+use mathlib.Core.List.{List}
+use Prim.Native.Nat.{ℕ, _+_, _≤_, _<_}
+use native.Mathlib.Nat.{not-suc-le-zero, eq-or-lt-of-le}
+use native.Mathlib.Omega.{arith}
+use lib.ListN.{length, getD, set}
+use Rattle.lists.proofs.Over.{mem-build, build-mem}
+use Rattle.model.specs.Limits.{max-gates}
+use Rattle.model.specs.Block.{Wire, Block, Joined}
+use Rattle.model.specs.Arrays.{wire-at, wires-in}
+use Rattle.model.specs.Refusal.{OnLoop}
+use Rattle.network.specs.Wires.{Lent, Wired, InArrays}
+use Rattle.network.specs.Marks.{Marks}
+use Rattle.network.specs.Order.{Waits, WireVisit, source-unplaced, source-placed}
+use Rattle.network.specs.Square.{pair-place, square-size, Paired, PairMarks}
+use Rattle.network.proofs.Reach.{Reach, reach-map, from-reaches, to-reaches}
+use Rattle.network.proofs.Marks.{marks-more, marks-same}
+use Rattle.network.proofs.Square.{paired-here, paired-kept, paired-old}
+
+pub wired-gates : {n m : ℕ} {sources targets : List ℕ} → Lent n m sources targets → (a b : ℕ) → Wired m sources targets a b → (a < n) × (b < n)
+wired-gates L a b w =
+    let s = L .source-is-gate (w .place) (w .below) in
+    let t = L .target-is-gate (w .place) (w .below) in
+    let e = w .source in
+    let f = w .target in
+    (omega arith, omega arith)
+
+module _ (sources targets : List ℕ) where
+  pub wired-none : (a b : ℕ) → ¬ (Wired 0 sources targets a b)
+  wired-none a b w = not-suc-le-zero (w .below)
+
+  pub waits-none : (n : ℕ) (place : List ℕ) (g : ℕ) → ¬ (Waits (Wired 0 sources targets) n place g)
+  waits-none n place g w = wired-none (w .source) g (w .wire)
+
+  pub pairs-none : (n : ℕ) (square : List ℕ) → n ≤ max-gates → ((i : ℕ) → i < square-size → getD square i 0 ≡ 0) → PairMarks (Wired 0 sources targets) n square
+  pairs-none n square few zeros =
+      record {
+        right = λ a b h l p. absurd (p (zeros (pair-place a b) (omega arith)));
+        whole = λ a b h l w. absurd (wired-none a b w);
+      }
+
+  module _ (i : ℕ) where
+    wired-more : (a b : ℕ) → Wired i sources targets a b → Wired (i + 1) sources targets a b
+    wired-more a b w = let l = w .below in record { place = w .place; below = omega arith; source = w .source; target = w .target }
+
+    wired-here : Wired (i + 1) sources targets (getD sources i 0) (getD targets i 0)
+    wired-here = record { place = i; below = omega arith; source = refl; target = refl }
+
+    wired-last : (a b : ℕ) → Wired (i + 1) sources targets a b → ((a ≡ getD sources i 0) × (b ≡ getD targets i 0)) ⊎ Wired i sources targets a b
+    wired-last a b w = go (eq-or-lt-of-le (let l = w .below in omega arith))
+      where
+        go : (w .place ≡ i) ⊎ (w .place < i) → ((a ≡ getD sources i 0) × (b ≡ getD targets i 0)) ⊎ Wired i sources targets a b
+        go (inl e) = inl (sym (w .source) ∙ ap (λ (j : ℕ). getD sources j 0) e, sym (w .target) ∙ ap (λ (j : ℕ). getD targets j 0) e)
+        go (inr l) = inr (record { place = w .place; below = l; source = w .source; target = w .target })
+
+    -- The marks of the gates that wait, with one wire more.
+    module _ (n : ℕ) (place : List ℕ) where
+      waits-more : (g : ℕ) → Waits (Wired i sources targets) n place g → Waits (Wired (i + 1) sources targets) n place g
+      waits-more g w = record { source = w .source; wire = wired-more (w .source) g (w .wire); unplaced = w .unplaced }
+
+      waits-last : (g : ℕ) (w : Waits (Wired (i + 1) sources targets) n place g)
+          → ((w .source ≡ getD sources i 0) × (g ≡ getD targets i 0)) ⊎ Waits (Wired i sources targets) n place g
+      waits-last g w = go (wired-last (w .source) g (w .wire))
+        where
+          go : ((w .source ≡ getD sources i 0) × (g ≡ getD targets i 0)) ⊎ Wired i sources targets (w .source) g
+              → ((w .source ≡ getD sources i 0) × (g ≡ getD targets i 0)) ⊎ Waits (Wired i sources targets) n place g
+          go (inl e) = inl e
+          go (inr x) = inr (record { source = w .source; wire = x; unplaced = w .unplaced })
+
+      pub waits-visited : (marks : List ℕ) (s t : ℕ) → s ≡ getD sources i 0 → t ≡ getD targets i 0 → t < length marks
+          → Marks (Waits (Wired i sources targets) n place) n marks
+          → {marks⁺ : List ℕ} → WireVisit n place s t marks marks⁺
+          → Marks (Waits (Wired (i + 1) sources targets) n place) n marks⁺
+      waits-visited marks s t e f long M (source-unplaced u) =
+          marks-more (Waits (Wired i sources targets) n place) (Waits (Wired (i + 1) sources targets) n place) n marks t long waits-more
+          (record { source = s; wire = rw (e, f) wired-here; unplaced = u })
+          (λ g w. ⊎-map (λ x. x .1 ∙ sym f) (λ x. x) (waits-last g w)) M
+      waits-visited marks s t e f long M (source-placed p) =
+          marks-same (Waits (Wired i sources targets) n place) (Waits (Wired (i + 1) sources targets) n place) n marks waits-more
+          (λ g w. ⊎-elim (λ x. placed g w (x .0)) (λ x. x) (waits-last g w)) M
+        where
+          placed : (g : ℕ) (w : Waits (Wired (i + 1) sources targets) n place g) → w .source ≡ getD sources i 0 → Waits (Wired i sources targets) n place g
+          placed g w x =
+              let same : getD place (w .source) 0 ≡ getD place s 0 = ap (λ (y : ℕ). getD place y 0) (x ∙ sym e) in
+              let u = w .unplaced in
+              absurd (omega arith)
+
+    -- The marks of the pairs that a wire joins, with one wire more.
+    module _ (s t : ℕ) (source : s ≡ getD sources i 0) (target : t ≡ getD targets i 0) where
+      pub pairs-marked : (n : ℕ) (square : List ℕ) → n ≤ max-gates → t < n → pair-place s t < length square
+          → PairMarks (Wired i sources targets) n square
+          → PairMarks (Wired (i + 1) sources targets) n (set square (pair-place s t) 1)
+      pairs-marked n square few gate long M =
+          record {
+            right = λ a b h l p. new a b h l (paired-old square s t long (omega arith) a b (omega arith) p);
+            whole = λ a b h l w. stays a b h l (wired-last a b w);
+          }
+        where
+          new : (a b : ℕ) → a < n → b < n → ((a ≡ s) × (b ≡ t)) ⊎ Paired square a b → Wired (i + 1) sources targets a b
+          new a b h l (inl e) = rw (e .0 ∙ source, e .1 ∙ target) wired-here
+          new a b h l (inr p) = wired-more a b (M .right a b h l p)
+
+          stays : (a b : ℕ) → a < n → b < n → ((a ≡ getD sources i 0) × (b ≡ getD targets i 0)) ⊎ Wired i sources targets a b → Paired (set square (pair-place s t) 1) a b
+          stays a b h l (inl e) = rw (e .0 ∙ sym source, e .1 ∙ sym target) (paired-here square s t long)
+          stays a b h l (inr w) = paired-kept square s t long a b (M .whole a b h l w)
+
+-- The wires of the arrays are those of the block.
+module _ (B : Block) (n m : ℕ) (sources targets : List ℕ) (I : InArrays B n m sources targets) where
+  pub wired-joined : (a b : ℕ) → Wired m sources targets a b → Joined (B .wires) a b
+  wired-joined a b w = (
+    getD (I .delays) (w .place) 0,
+    rw (I .wires, ← (w .source), ← (w .target)) (build-mem m (wire-at sources targets (I .delays)) (w .place) (w .below)),
+  )
+
+  pub joined-wired : (a b : ℕ) → Joined (B .wires) a b → Wired m sources targets a b
+  joined-wired a b j =
+      let f = mem-build m (wire-at sources targets (I .delays)) (rw (I .wires) at (j .1)) in
+      record {
+        place = f .0;
+        below = f .1;
+        source = sym (ap (λ (w : Wire). w .source) (f .2));
+        target = sym (ap (λ (w : Wire). w .target) (f .2));
+      }
+
+  pub wired-loop : (g : ℕ) → Reach (Wired m sources targets) g g → OnLoop B g
+  wired-loop g r = to-reaches (reach-map wired-joined r)
+
+  pub loop-wired : (g : ℕ) → OnLoop B g → Reach (Wired m sources targets) g g
+  loop-wired g r = reach-map joined-wired (from-reaches r)

@@ -1,0 +1,54 @@
+-- `network::loops::close_row` meets its contract: after b turns the first b marks of the row are whole.
+-- Assumes nothing.
+use borrow.Author.Needs.{needs}
+use mathlib.Core.Path.{_≡_, refl, _∙_}
+use mathlib.Core.List.{List}
+use Prim.Native.Nat.{ℕ, _≤_, _-_}
+use native.Mathlib.Omega.{arith}
+use lib.ListN.{length}
+use Rattle.network.specs.Square.{Closing}
+use Rattle.network.proofs.Square.{pair-visited, row-ends}
+use Rattle.network.proofs.loops.close_row.Statement.{statement}
+use Rattle.network.proofs.loops.close_row.Tie as tie
+
+abbrev Inv-loop : tie.InvT-loop
+Inv-loop n k a square₀ b₀ square b = (b ≤ n) × (length square ≡ length square₀) × ((start : List ℕ) → Closing start n k a 0 square₀ → Closing start n k a b square)
+
+abbrev μ-loop : tie.MeasureT-loop
+μ-loop n k a square₀ b₀ square b = n - b
+
+loop-holds : tie.Need-loop-holds Inv-loop μ-loop
+loop-holds c = (omega arith, refl, λ start C. C)
+
+visit-pair-requires : tie.Need-visit-pair-requires Inv-loop μ-loop
+visit-pair-requires c κs = search needs
+
+add-b : tie.Need-add-b Inv-loop μ-loop
+add-b c = search needs
+
+loop-less : tie.Need-loop-less Inv-loop μ-loop
+loop-less c = search needs
+
+loop-again : tie.Need-loop-again Inv-loop μ-loop
+loop-again c = let g = c .before .before .before .before .before .before .before .args in
+    let few = c .before .before .before .before .before .before .before .pre .0 .0 in
+    let kn = c .before .before .before .before .before .before .before .pre .0 .1 in
+    let an = c .before .before .before .before .before .before .before .pre .0 .2 in
+    let l = c .before .before .before .before .before .before .before .pre .1 .0 in
+    let e = c .before .before .before .before .before .loop .inv .1 in
+    let t = c .before .before .before .before .loop-test .taken in (
+      omega arith,
+      c .before .before .visit-pair .kept .1 .1 .1 .0 ∙ e,
+      λ start C. pair-visited start (g .n) few (g .k) (g .a) an (c .before .before .before .before .before .loop .b) t (c .before .before .before .before .before .loop .square) (c .before .before .before .before .before .loop .inv .2 start C) kn (omega arith) (C .right (g .a) (g .k) an kn (c .before .before .before .before .before .before .before .pre .1 .1)) (c .before .before .visit-pair .ensures),
+    )
+
+same-length : tie.Need-same-length Inv-loop μ-loop
+same-length c = search needs
+
+returns : tie.Need-returns Inv-loop μ-loop
+returns c = let g = c .before .before .before .args in
+    let e : c .before .loop .b ≡ g .n = omega arith in
+    λ start C. row-ends start (g .n) (c .before .before .before .pre .0 .0) (g .k) (g .a) (c .before .before .before .pre .0 .2) (c .before .loop .square) (rw e at (c .before .loop .inv .2 start C))
+
+pub close-row-spec : {M : Type 1} → statement M
+close-row-spec = tie.close (tie.spec Inv-loop μ-loop loop-holds visit-pair-requires add-b loop-less loop-again same-length returns)

@@ -1,0 +1,65 @@
+-- `network::ordering::order_gates` meets its contract: a round that places no gate shows a loop; once all are placed, the order is whole.
+-- Assumes nothing.
+use borrow.Author.Needs.{needs}
+use mathlib.Core.Path.{_≡_, refl, _∙_}
+use Prim.Native.Nat.{ℕ, _≤_, _-_}
+use native.Mathlib.Omega.{arith}
+use lib.ListN.{length, length-replicate, getD-replicate}
+use Rattle.network.specs.Wires.{Wired}
+use Rattle.network.specs.Order.{Placed, Advanced}
+use Rattle.network.proofs.Wires.{wired-gates}
+use Rattle.network.proofs.Rounds.{none-placed, stuck-loop, whole-order}
+use Rattle.network.proofs.Answers.{order-found, loop-found}
+use Rattle.network.proofs.ordering.order_gates.Statement.{statement}
+use Rattle.network.proofs.ordering.order_gates.Tie as tie
+
+abbrev Inv-loop : tie.InvT-loop
+Inv-loop n m sources targets order₀ place₀ count₀ order place count = (length order ≡ length order₀) × (length place ≡ 64) × Placed (Wired m sources targets) n place order count
+
+abbrev μ-loop : tie.MeasureT-loop
+μ-loop n m sources targets order₀ place₀ count₀ order place count = n - count
+
+loop-holds : tie.Need-loop-holds Inv-loop μ-loop
+loop-holds c = let a = c .before .before .before .args in
+    let few = c .before .before .before .pre .0 .gates in
+    (refl, length-replicate {A = ℕ} 64 64, none-placed (Wired (a .m) (a .sources .now) (a .targets .now)) (a .n) (wired-gates (c .before .before .before .pre .0)) _ (a .order .now) (λ g h. let e = getD-replicate {A = ℕ} 64 g 64 0 (omega arith) in omega arith))
+
+slice-aggregate-place-round : tie.Need-slice-aggregate-place-round Inv-loop μ-loop
+slice-aggregate-place-round c = search needs
+
+place-round-requires : tie.Need-place-round-requires Inv-loop μ-loop
+place-round-requires c κs = let few = c .before .before .before .before .before .before .before .pre .0 .gates in
+    let o = c .before .before .before .before .before .before .before .pre .1 in
+    let e = c .before .before .before .loop .inv .0 in
+    let f = c .before .before .before .loop .inv .1 in
+    (c .before .before .before .before .before .before .before .pre .0, ((omega arith, omega arith), c .before .before .before .loop .inv .2))
+
+same-length : tie.Need-same-length Inv-loop μ-loop
+same-length c = c .before .before .before .before .place-round .kept .1 .1 .1 .1 .1 .0 ∙ c .before .before .before .before .before .before .before .before .loop .inv .0
+
+returns : tie.Need-returns Inv-loop μ-loop
+returns c = let a = c .before .before .before .before .before .before .before .before .before .before .before .before .args in
+    λ B I. loop-found B (a .n) (a .m) (a .sources .now) (a .targets .now) I (c .before .before .before .before .place-round .last .1 .1 .1 .1 .1 .0)
+    (stuck-loop (Wired (a .m) (a .sources .now) (a .targets .now)) (a .n) (wired-gates (c .before .before .before .before .before .before .before .before .before .before .before .before .pre .0)) (c .before .before .before .before .place-round .last .1 .1 .1 .1 .0) (c .before .before .before .before .place-round .last .1 .1 .1 .1 .1 .0) (c .before .before .before .before .before .before .before .before .loop .count) (rw (c .if1 .taken) at (c .before .before .before .before .place-round .ensures)) (c .before .before .before .before .before .before .before .loop-test .taken))
+
+loop-less : tie.Need-loop-less Inv-loop μ-loop
+loop-less c = let g = c .before .before .before .before .place-round .ensures .grown in
+    let w = c .before .before .before .before .place-round .ensures .placed .within in
+    let d = c .if1 .left in
+    omega arith
+
+loop-again : tie.Need-loop-again Inv-loop μ-loop
+loop-again c = (c .before .before .before .before .place-round .kept .1 .1 .1 .1 .1 .0 ∙ c .before .before .before .before .before .before .before .before .loop .inv .0, c .before .before .before .before .place-round .kept .1 .1 .1 .1 .0 ∙ c .before .before .before .before .before .before .before .before .loop .inv .1, c .before .before .before .before .place-round .ensures .placed)
+
+same-length-2 : tie.Need-same-length-2 Inv-loop μ-loop
+same-length-2 c = search needs
+
+returns-2 : tie.Need-returns-2 Inv-loop μ-loop
+returns-2 c = let a = c .before .before .before .before .before .args in
+    let w = c .before .loop .inv .2 .within in
+    let e : c .before .loop .count ≡ a .n = omega arith in
+    λ B I. order-found B (a .n) (a .m) (a .sources .now) (a .targets .now) I (c .before .loop .order)
+    (whole-order (Wired (a .m) (a .sources .now) (a .targets .now)) (a .n) (wired-gates (c .before .before .before .before .before .pre .0)) (c .before .loop .place) (c .before .loop .order) (rw e at (c .before .loop .inv .2)))
+
+pub order-gates-spec : {M : Type 1} → statement M
+order-gates-spec = tie.close (tie.spec Inv-loop μ-loop loop-holds slice-aggregate-place-round place-round-requires same-length returns loop-less loop-again same-length-2 returns-2)

@@ -1,0 +1,6 @@
+pub mod Wires
+pub mod Marks
+pub mod Order
+pub mod Square
+pub mod Misplaced
+pub mod Judged

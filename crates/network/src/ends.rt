@@ -1,0 +1,68 @@
+// Refusal 9: the lowest gate that has a wire where it must have none, or none where it must have one.
+use super::Faults;
+use super::marking::mark_keys;
+ghost use mathlib.Core.Path.{_≡_};
+ghost use Prim.Native.Nat.{ℕ, _≤_, _<_};
+ghost use lib.ListN.{length};
+ghost use Rattle.lists.specs.Search.{Says};
+ghost use Rattle.model.specs.Block.{Block};
+ghost use Rattle.network.specs.Wires.{Lent, InArrays, EndsAt};
+ghost use Rattle.network.specs.Marks.{First};
+ghost use Rattle.network.specs.Misplaced.{Misplaced, Faulty};
+ghost use Rattle.network.specs.Judged.{FaultFound};
+
+// Whether gate g has a wire too many or none on one side, where `end` must have none and `mark` is not 0 if g has one.
+fn misplaced(g: usize, end: usize, mark: u8) -> bool
+    ensures { λ r. ⌜ Says (Misplaced g end mark) r ⌝ }
+{
+    if g == end { mark != 0 } else { mark == 0 }
+}
+
+// Whether gate g is at fault with its wires in or with its wires out, as the marks tell.
+fn faulty(g: usize, first: usize, last: usize, ins: &[u8], outs: &[u8]) -> bool
+    requires { ⌜ (g < length (now ins)) × (g < length (now outs)) ⌝ }
+    ensures { λ r. ⌜ Says (Faulty first last (now (ins .entry)) (now (outs .entry)) g) r ⌝ }
+{
+    if misplaced(g, first, ins[g]) {
+        return true;
+    }
+    misplaced(g, last, outs[g])
+}
+
+// The lowest gate at fault as the marks tell, or n where there is none.
+fn first_faulty(n: usize, first: usize, last: usize, ins: &[u8], outs: &[u8]) -> usize
+    requires { ⌜ (n ≤ length (now ins)) × (n ≤ length (now outs)) ⌝ }
+    ensures { λ r. ⌜ First (Faulty first last (now (ins .entry)) (now (outs .entry))) n r ⌝ }
+{
+    let mut g = 0;
+    while g < n {
+        if faulty(g, first, last, ins, outs) {
+            return g;
+        }
+        g += 1;
+    }
+    g
+}
+
+// The lowest gate at fault with its wires, where `first` must have no wire in and `last` none out.
+pub fn lowest_at_fault(
+    n: usize,
+    m: usize,
+    sources: &[u32],
+    targets: &[u32],
+    first: usize,
+    last: usize,
+) -> Faults
+    requires { ⌜ Lent n m (now sources) (now targets) ⌝ }
+    ensures { λ r. ⌜ ((B : Block) → InArrays B n m (now (sources .entry)) (now (targets .entry)) → EndsAt B first last → FaultFound B r) ⌝ }
+{
+    let mut ins = [0u8; 64];
+    let mut outs = [0u8; 64];
+    mark_keys(n, m, targets, &mut ins);
+    mark_keys(n, m, sources, &mut outs);
+    let gate = first_faulty(n, first, last, &ins, &outs);
+    if gate < n {
+        return Faults::At { gate: gate };
+    }
+    Faults::Nowhere
+}

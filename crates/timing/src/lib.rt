@@ -1,0 +1,6 @@
+// Longest paths through a network of gates, and the slacks they leave, on lent arrays.
+pub mod chain;
+pub mod latest;
+pub mod number;
+pub mod slack;
+pub mod times;
