@@ -8,3 +8,7 @@ pub mod Source
 pub mod Turned
 pub mod Slack
 pub mod Answer
+pub mod Fields
+pub mod Every
+pub mod Steps
+pub mod Fault
