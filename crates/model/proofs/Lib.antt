@@ -12,3 +12,6 @@ pub mod Fields
 pub mod Every
 pub mod Steps
 pub mod Fault
+pub mod Reading
+pub mod Bodies
+pub mod File
