@@ -15,3 +15,5 @@ pub mod Fault
 pub mod Reading
 pub mod Bodies
 pub mod File
+pub mod Place
+pub mod Tried

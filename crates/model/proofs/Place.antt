@@ -1,0 +1,279 @@
+-- The place of a refusal of 1 to 7 is the offset of the field at fault, before which every field is faultless (document 01, "Refusals and their places"): `refused-at-fault`, and the other way `at-fault-refused`.
+-- The idea: a data type of the places to which faultless fields lead; `decode` walks along them.
+-- Assumes nothing.
+use mathlib.Core.Path.{_≡_, refl, sym, _∙_, ap, subst, subst₂}
+use mathlib.Core.Logic.{⊎-elim}
+use mathlib.Core.List.{List, [], _∷_, _++_, reverse, reverse-append}
+use mathlib.Core.Bool.{true, false}
+use Prim.Native.Nat.{ℕ, zero, suc, _+_, _<_, _≤_}
+use native.Mathlib.Omega.{arith}
+use lib.Dec.{leb}
+use lib.ListN.{length, length-reverse}
+use borrow.Author.Tests.{leb-true, leb-false}
+use Rattle.lists.proofs.Bool.{cases}
+use Rattle.model.proofs.Fault.{faultless-from-0, fault-at-most-6, read-found, read-refused, found-is, refused-is}
+use Rattle.model.proofs.Reading.{Before, then-refused, read-gates-none, read-gates-suc, read-gates-more, read-gates-refused, read-wires-ended, read-wires-full, read-wires-next, WiresRead, wires-none, wires-more, wires-full, wires-refused, read-in-file-order, decode-block-refused, decode-gates-refused, decode-wires-refused}
+use Rattle.model.specs.Limits.{max-wires}
+use Rattle.model.specs.Block.{Wire}
+use Rattle.model.specs.Netlist.{DrawnGate, Netlist}
+use Rattle.model.specs.Field.{body-at, body-to}
+use Rattle.model.specs.File.{Due, block, gate, wire, Header, Reading, found, refused, and-then, says, fault, read-field, read-gates, read-wires, netlist, decode}
+
+-- How far reading has come: before the block field, before the last so many of n gates, or before the wires of n gates that follow those seen.
+pub data Stage : Type 0 where
+  at-block : Stage
+  at-gates : ℕ → ℕ → Stage
+  at-wires : ℕ → List Wire → Stage
+
+-- Reading has come to the offset: every field before it is due there and has no fault.
+pub data Passed (s : List ℕ) : Stage → ℕ → Type 0 where
+  none-passed : Passed s at-block 0
+  block-passed : fault block s 0 ≡ 0 → Passed s (at-gates (says block (body-at s 0) .gate-count) (says block (body-at s 0) .gate-count)) (body-to s 0)
+  gate-passed : {n left o : ℕ} → Passed s (at-gates n (suc left)) o → fault gate s o ≡ 0 → Passed s (at-gates n left) (body-to s o)
+  gates-passed : {n o : ℕ} → Passed s (at-gates n 0) o → Passed s (at-wires n []) o
+  wire-passed : {n o : ℕ} {seen : List Wire} → Passed s (at-wires n seen) o → length seen < max-wires → o < length s → fault (wire n seen) s o ≡ 0 → Passed s (at-wires n (says (wire n seen) (body-at s o) ∷ seen)) (body-to s o)
+
+-- What is due at the offset: all before has passed, and a wire is due only where a byte is left and there is room for it.
+pub data Reached (s : List ℕ) : Due → ℕ → Type 0 where
+  block-due : Reached s block 0
+  gate-due : {n left o : ℕ} → Passed s (at-gates n (suc left)) o → Reached s gate o
+  wire-due : {n o : ℕ} {seen : List Wire} → Passed s (at-wires n seen) o → length seen < max-wires → o < length s → Reached s (wire n seen) o
+
+-- The file is at fault at the offset: the field due there has the fault k, or a byte follows the last wire that there is room for.
+pub data AtFault (s : List ℕ) : ℕ → ℕ → Type 0 where
+  faulty : {d : Due} {k o : ℕ} → Reached s d o → fault d s o ≡ suc k → AtFault s (suc k) o
+  excess : {n o : ℕ} {seen : List Wire} → Passed s (at-wires n seen) o → length seen ≡ max-wires → o < length s → AtFault s 7 o
+
+-- FROM REFUSAL TO FAULT
+refused-faulty : {s : List ℕ} (d : Due) (o k : ℕ) {p : ℕ} → Reached s d o → read-field d s o ≡ refused k p → AtFault s k p
+refused-faulty {s} d o zero r e = absurd (omega (arith, refused-is d s o e .at-fault))
+refused-faulty {s} d o (suc k) {p} r e =
+    let f = refused-is d s o e in
+    subst (AtFault s (suc k)) (sym (f .place)) (faulty r (f .has-fault))
+
+block-found : {s : List ℕ} {h : Header} {p : ℕ} → read-field block s 0 ≡ found h p → Passed s (at-gates (h .gate-count) (h .gate-count)) p
+block-found {s} e =
+    let f = found-is block s 0 e in
+    subst₂ (λ (x : Header) (q : ℕ). Passed s (at-gates (x .gate-count) (x .gate-count)) q) (sym (f .says-it)) (sym (f .ends)) (block-passed (f .no-fault))
+
+gate-found : {s : List ℕ} {n left o : ℕ} {g : DrawnGate} {p : ℕ} → Passed s (at-gates n (suc left)) o → read-field gate s o ≡ found g p → Passed s (at-gates n left) p
+gate-found {s} {n} {left} {o} r e =
+    let f = found-is gate s o e in
+    subst (Passed s (at-gates n left)) (sym (f .ends)) (gate-passed r (f .no-fault))
+
+wire-found : {s : List ℕ} {n o : ℕ} {seen : List Wire} {w : Wire} {p : ℕ} → Passed s (at-wires n seen) o → length seen < max-wires → o < length s → read-field (wire n seen) s o ≡ found w p → Passed s (at-wires n (w ∷ seen)) p
+wire-found {s} {n} {o} {seen} r l h e =
+    let f = found-is (wire n seen) s o e in
+    subst₂ (λ (x : Wire) (q : ℕ). Passed s (at-wires n (x ∷ seen)) q) (sym (f .says-it)) (sym (f .ends)) (wire-passed r l h (f .no-fault))
+
+gates-found : {s : List ℕ} {n : ℕ} (left o : ℕ) {gs : List DrawnGate} {p : ℕ} → Passed s (at-gates n left) o → read-gates left s o ≡ found gs p → Passed s (at-wires n []) p
+gates-found {s} {n} zero o {gs} {p} r e =
+    let f : found [] o ≡ found gs p = sym (read-gates-none s o) ∙ e in
+    let b : o ≡ p = cc in
+    subst (Passed s (at-wires n [])) b (gates-passed r)
+gates-found {s} (suc left) o r e =
+    let f = read-gates-suc s left o e in
+    gates-found left (f .behind) (gate-found r (f .first-read)) (f .rest-read)
+
+found-not-refused : {A B : Type 0} {a : A} {o k p : ℕ} → _≡_ {A = Reading A} (found a o) (refused k p) → B
+found-not-refused e =
+    let z : _≡_ {A = ℕ} 0 1 = cc in
+    absurd (omega arith)
+
+gates-at-fault : {s : List ℕ} {n : ℕ} (left o : ℕ) {k p : ℕ} → Passed s (at-gates n left) o → read-gates left s o ≡ refused k p → AtFault s k p
+unfolding read-gates
+gates-at-fault zero o r e = found-not-refused e
+gates-at-fault {s} {n} (suc left) o {k} {p} r e =
+    ⊎-elim
+    (λ (f : read-field gate s o ≡ refused k p). refused-faulty gate o k (gate-due r) f)
+    (λ (b : Before (read-field gate s o) next (refused k p)).
+    ⊎-elim
+    (λ (f : read-gates left s (b .offset) ≡ refused k p). gates-at-fault left (b .offset) (gate-found r (b .was-found)) f)
+    (λ (c : Before (read-gates left s (b .offset)) (λ (gs : List DrawnGate) (q : ℕ). found (b .value ∷ gs) q) (refused k p)). found-not-refused (c .went-on))
+    (then-refused (read-gates left s (b .offset)) (λ (gs : List DrawnGate) (q : ℕ). found (b .value ∷ gs) q) (b .went-on)))
+    (then-refused (read-field gate s o) next e)
+  where
+    next : DrawnGate → ℕ → Reading (List DrawnGate)
+    next g q = and-then (read-gates left s q) (λ (gs : List DrawnGate) (q : ℕ). found (g ∷ gs) q)
+
+wires-at-fault : {s : List ℕ} {n : ℕ} (room o : ℕ) {seen : List Wire} {k p : ℕ} → Passed s (at-wires n seen) o → room + length seen ≡ max-wires → read-wires room n seen s o ≡ refused k p → AtFault s k p
+wires-at-fault {s} {n} zero o {seen} {k} {p} r l e =
+    cases (leb (length s) o)
+    (λ (t : leb (length s) o ≡ true). found-not-refused (sym (read-wires-ended n seen s o 0 (leb-true (length s) o t)) ∙ e))
+    (λ (t : leb (length s) o ≡ false).
+    let h : o < length s = leb-false (length s) o t in
+    let f : refused 7 o ≡ refused k p = sym (read-wires-full n seen s o h) ∙ e in
+    let a : 7 ≡ k = cc in
+    let b : o ≡ p = cc in
+    subst₂ (AtFault s) a b (excess r (omega arith) h))
+wires-at-fault {s} {n} (suc room) o {seen} {k} {p} r l e =
+    cases (leb (length s) o)
+    (λ (t : leb (length s) o ≡ true). found-not-refused (sym (read-wires-ended n seen s o (suc room) (leb-true (length s) o t)) ∙ e))
+    (λ (t : leb (length s) o ≡ false).
+    let h : o < length s = leb-false (length s) o t in
+    let m : length seen < max-wires = omega arith in
+    ⊎-elim
+    (λ (f : read-field (wire n seen) s o ≡ refused k p). refused-faulty (wire n seen) o k (wire-due r m h) f)
+    (λ (b : Before (read-field (wire n seen) s o) next (refused k p)).
+    ⊎-elim
+    (λ (f : read-wires room n (b .value ∷ seen) s (b .offset) ≡ refused k p). wires-at-fault room (b .offset) (wire-found r m h (b .was-found)) (omega arith) f)
+    (λ (c : Before (read-wires room n (b .value ∷ seen) s (b .offset)) (λ (ws : List Wire) (q : ℕ). found (b .value ∷ ws) q) (refused k p)). found-not-refused (c .went-on))
+    (then-refused (read-wires room n (b .value ∷ seen) s (b .offset)) (λ (ws : List Wire) (q : ℕ). found (b .value ∷ ws) q) (b .went-on)))
+    (then-refused (read-field (wire n seen) s o) next (sym (read-wires-next n seen s o room h) ∙ e)))
+  where
+    next : Wire → ℕ → Reading (List Wire)
+    next w q = and-then (read-wires room n (w ∷ seen) s q) (λ (ws : List Wire) (q : ℕ). found (w ∷ ws) q)
+
+-- A refused file is at fault at the place of the refusal.
+pub refused-at-fault : (s : List ℕ) {k o : ℕ} → decode s ≡ refused k o → AtFault s k o
+unfolding decode
+refused-at-fault s {k} {o} e =
+    ⊎-elim
+    (λ (f : read-field block s 0 ≡ refused k o). refused-faulty block 0 k block-due f)
+    (λ (b : Before (read-field block s 0) gates-next (refused k o)).
+    ⊎-elim
+    (λ (f : read-gates (b .value .gate-count) s (b .offset) ≡ refused k o). gates-at-fault (b .value .gate-count) (b .offset) (block-found (b .was-found)) f)
+    (λ (c : Before (read-gates (b .value .gate-count) s (b .offset)) (wires-next (b .value)) (refused k o)).
+    ⊎-elim
+    (λ (f : read-wires max-wires (b .value .gate-count) [] s (c .offset) ≡ refused k o).
+    wires-at-fault max-wires (c .offset) (gates-found (b .value .gate-count) (b .offset) (block-found (b .was-found)) (c .was-found)) refl f)
+    (λ (d : Before (read-wires max-wires (b .value .gate-count) [] s (c .offset)) (all (b .value) (c .value)) (refused k o)). found-not-refused (d .went-on))
+    (then-refused (read-wires max-wires (b .value .gate-count) [] s (c .offset)) (all (b .value) (c .value)) (c .went-on)))
+    (then-refused (read-gates (b .value .gate-count) s (b .offset)) (wires-next (b .value)) (b .went-on)))
+    (then-refused (read-field block s 0) gates-next e)
+  where
+    all : Header → List DrawnGate → List Wire → ℕ → Reading Netlist
+    all h gs ws q = found (netlist h gs ws) q
+
+    wires-next : Header → List DrawnGate → ℕ → Reading Netlist
+    wires-next h gs p = and-then (read-wires max-wires (h .gate-count) [] s p) (all h gs)
+
+    gates-next : Header → ℕ → Reading Netlist
+    gates-next h o = and-then (read-gates (h .gate-count) s o) (wires-next h)
+
+-- FROM FAULT TO REFUSAL
+-- The block field was read, and so many gates of n.
+record AmongGates (s : List ℕ) (n left o : ℕ) : Type 0 where
+  header : Header
+  gates-at : ℕ
+  header-read : read-field block s 0 ≡ found header gates-at
+  count : header .gate-count ≡ n
+  so-many : ℕ
+  sum : so-many + left ≡ n
+  gates : List DrawnGate
+  gates-read : read-gates so-many s gates-at ≡ found gates o
+
+among-gates : {s : List ℕ} {n left o : ℕ} → Passed s (at-gates n left) o → AmongGates s n left o
+among-gates {s} (block-passed f) = record {
+  header = says block (body-at s 0);
+  gates-at = body-to s 0;
+  header-read = read-found block s 0 f;
+  count = refl;
+  so-many = 0;
+  sum = omega arith;
+  gates = [];
+  gates-read = read-gates-none s (body-to s 0);
+}
+among-gates {s} (gate-passed {o = o} r f) =
+    let a = among-gates r in
+    record {
+      header = a .header;
+      gates-at = a .gates-at;
+      header-read = a .header-read;
+      count = a .count;
+      so-many = a .so-many + 1;
+      sum = omega (arith, a .sum);
+      gates = a .gates ++ (says gate (body-at s o) ∷ []);
+      gates-read = read-gates-more s (a .so-many) (a .gates-at) (a .gates-read) (read-found gate s o f);
+    }
+
+-- The block field was read, all gates, and the wires seen.
+record AmongWires (s : List ℕ) (n : ℕ) (seen : List Wire) (o : ℕ) : Type 0 where
+  header : Header
+  gates-at : ℕ
+  header-read : read-field block s 0 ≡ found header gates-at
+  count : header .gate-count ≡ n
+  gates : List DrawnGate
+  wires-at : ℕ
+  gates-read : read-gates (header .gate-count) s gates-at ≡ found gates wires-at
+  wires : List Wire
+  are-seen : seen ≡ reverse wires
+  wires-read : WiresRead n s wires-at wires o
+
+in-file-order : {s : List ℕ} {n o : ℕ} {seen : List Wire} (a : AmongWires s n seen o) → read-field (wire n seen) s o ≡ read-field (wire n (a .wires)) s o
+in-file-order {s} {n} {o} a = ap (λ (l : List Wire). read-field (wire n l) s o) (a .are-seen) ∙ read-in-file-order n (a .wires) s o
+
+among-wires : {s : List ℕ} {n o : ℕ} {seen : List Wire} → Passed s (at-wires n seen) o → AmongWires s n seen o
+among-wires {s} {n} {o} (gates-passed r) =
+    let a = among-gates r in
+    let e : a .so-many ≡ a .header .gate-count = omega (arith, a .sum, a .count) in
+    record {
+      header = a .header;
+      gates-at = a .gates-at;
+      header-read = a .header-read;
+      count = a .count;
+      gates = a .gates;
+      wires-at = o;
+      gates-read = subst (λ (i : ℕ). read-gates i s (a .gates-at) ≡ found (a .gates) o) e (a .gates-read);
+      wires = [];
+      are-seen = refl;
+      wires-read = wires-none n s o;
+    }
+among-wires {s} {n} (wire-passed {o = o} {seen = seen} r l h f) =
+    let a = among-wires r in
+    let w : Wire = says (wire n seen) (body-at s o) in
+    record {
+      header = a .header;
+      gates-at = a .gates-at;
+      header-read = a .header-read;
+      count = a .count;
+      gates = a .gates;
+      wires-at = a .wires-at;
+      gates-read = a .gates-read;
+      wires = a .wires ++ (w ∷ []);
+      are-seen = ap (_∷_ w) (a .are-seen) ∙ sym (reverse-append (a .wires) (w ∷ []));
+      wires-read = wires-more n s (a .wires-at) (a .wires-read) h
+          (sym (in-file-order a) ∙ read-found (wire n seen) s o f);
+    }
+
+length-seen : {s : List ℕ} {n o : ℕ} {seen : List Wire} (a : AmongWires s n seen o) → length (a .wires) ≡ length seen
+length-seen a = sym (ap length (a .are-seen) ∙ length-reverse (a .wires))
+
+wires-refuse : {s : List ℕ} {n o : ℕ} {seen : List Wire} (a : AmongWires s n seen o) {k q : ℕ} → read-wires max-wires n [] s (a .wires-at) ≡ refused k q → decode s ≡ refused k q
+wires-refuse {s} a {k} {q} e =
+    decode-wires-refused s (a .header-read) (a .gates-read)
+    (subst (λ (m : ℕ). read-wires max-wires m [] s (a .wires-at) ≡ refused k q) (sym (a .count)) e)
+
+-- A file at fault is refused, with the number and the place of the fault.
+pub at-fault-refused : {s : List ℕ} {k o : ℕ} → AtFault s k o → decode s ≡ refused k o
+at-fault-refused {s} (faulty block-due e) = decode-block-refused s (read-refused block s 0 e)
+at-fault-refused {s} (faulty {o = o} (gate-due r) e) =
+    let a = among-gates r in
+    decode-gates-refused s (a .header-read)
+    (read-gates-refused s (a .so-many) (a .header .gate-count) (a .gates-at) (omega (arith, a .sum, a .count)) (a .gates-read) (read-refused gate s o e))
+at-fault-refused {s} (faulty {o = o} (wire-due {n = n} {seen = seen} r l h) e) =
+    let a = among-wires r in
+    wires-refuse a
+    (wires-refused n s (a .wires-at) (a .wires-read) (omega (arith, length-seen a)) h
+    (sym (in-file-order a) ∙ read-refused (wire n seen) s o e))
+at-fault-refused {s} (excess {n = n} r l h) =
+    let a = among-wires r in
+    wires-refuse a (wires-full n s (a .wires-at) (a .wires-read) (omega (arith, length-seen a)) h)
+
+-- the number is one of 1 to 7, and the place is in the file or at its end
+pub at-fault-number : {s : List ℕ} {k o : ℕ} → AtFault s k o → (1 ≤ k) × (k ≤ 7)
+at-fault-number {s} (faulty {d = d} {o = o} r e) = (omega arith, omega (arith, fault-at-most-6 d s o))
+at-fault-number (excess r l h) = (omega arith, omega arith)
+
+passed-inside : {s : List ℕ} {g : Stage} {o : ℕ} → Passed s g o → o ≤ length s
+passed-inside none-passed = omega arith
+passed-inside {s} (block-passed f) = faultless-from-0 block s 0 f .inside
+passed-inside {s} (gate-passed {o = o} r f) = faultless-from-0 gate s o f .inside
+passed-inside (gates-passed r) = passed-inside r
+passed-inside {s} (wire-passed {n = n} {o = o} {seen = seen} r l h f) = faultless-from-0 (wire n seen) s o f .inside
+
+pub at-fault-inside : {s : List ℕ} {k o : ℕ} → AtFault s k o → o ≤ length s
+at-fault-inside (faulty block-due e) = omega arith
+at-fault-inside (faulty (gate-due r) e) = passed-inside r
+at-fault-inside (faulty (wire-due r l h) e) = passed-inside r
+at-fault-inside (excess r l h) = passed-inside r

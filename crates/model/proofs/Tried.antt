@@ -1,0 +1,82 @@
+-- Diamond D of document 01, "Blocks tried by hand": its bytes are decoded to the netlist that is meant, and its start, spare and savings are those that the document gives. All by computation.
+-- Assumes nothing.
+use mathlib.Core.Path.{_≡_, refl}
+use mathlib.Core.List.{List, [], _∷_, _++_, map, flatMap}
+use Prim.Native.Nat.{ℕ, _*_}
+use lib.IntN.{pos}
+use Rattle.lists.specs.Sum.{sum, total}
+use Rattle.model.specs.Activity.{activity}
+use Rattle.model.specs.Block.{Step, Wire}
+use Rattle.model.specs.Netlist.{DrawnGate, Netlist, block-of}
+use Rattle.model.specs.Field.{field-at}
+use Rattle.model.specs.File.{found, refused, steps-in, every, some, falls, falls-below, fault, read-field, read-gates, read-wires, decode, encode}
+use Rattle.model.specs.Gain.{drop-of, input-activity, gain, saving}
+use Rattle.model.specs.Slack.{latest-in, source-by, start, spare}
+
+-- the bytes of D with a deadline below 256
+pub diamond-file : ℕ → List ℕ
+diamond-file deadline =
+    (1 ∷ 0 ∷ 8 ∷ 1 ∷ 4 ∷ 0 ∷ 0 ∷ 0 ∷ deadline ∷ 0 ∷ 128 ∷ [])
+    ++ (2 ∷ 0 ∷ 4 ∷ 0 ∷ 2 ∷ 0 ∷ 128 ∷ [])
+    ++ (2 ∷ 0 ∷ 12 ∷ 0 ∷ 3 ∷ 0 ∷ 128 ∷ 0 ∷ 2 ∷ 0 ∷ 5 ∷ 0 ∷ 3 ∷ 0 ∷ 2 ∷ [])
+    ++ (2 ∷ 0 ∷ 8 ∷ 0 ∷ 1 ∷ 0 ∷ 128 ∷ 0 ∷ 4 ∷ 0 ∷ 4 ∷ [])
+    ++ (2 ∷ 0 ∷ 8 ∷ 0 ∷ 2 ∷ 0 ∷ 128 ∷ 0 ∷ 5 ∷ 0 ∷ 6 ∷ [])
+    ++ (3 ∷ 0 ∷ 2 ∷ 0 ∷ 1 ∷ [])
+    ++ (3 ∷ 0 ∷ 2 ∷ 0 ∷ 2 ∷ [])
+    ++ (3 ∷ 0 ∷ 2 ∷ 1 ∷ 3 ∷ [])
+    ++ (3 ∷ 0 ∷ 2 ∷ 2 ∷ 3 ∷ [])
+
+step : ℕ → ℕ → Step
+step w d = record { width = w; drop = d }
+
+drawn-gate : ℕ → List Step → DrawnGate
+drawn-gate d ss = record { delay = d; probability = 128; steps = ss }
+
+joins : ℕ → ℕ → Wire
+joins a b = record { source = a; target = b; delay = 0 }
+
+-- what they say
+pub diamond : ℕ → Netlist
+diamond deadline =
+    record {
+      edition = 1;
+      arrival = 0;
+      deadline = deadline;
+      probability = 128;
+      gates =
+          drawn-gate 2 []
+          ∷ drawn-gate 3 (step 2 5 ∷ step 3 2 ∷ [])
+          ∷ drawn-gate 1 (step 4 4 ∷ [])
+          ∷ drawn-gate 2 (step 5 6 ∷ [])
+          ∷ [];
+      wires = joins 0 1 ∷ joins 0 2 ∷ joins 1 3 ∷ joins 2 3 ∷ [];
+    }
+
+pub diamond-decoded : decode (diamond-file 10) ≡ found (diamond 10) 75
+unfolding decode read-field fault field-at read-gates read-wires steps-in every some falls falls-below diamond-file diamond step drawn-gate joins
+diamond-decoded = refl
+
+pub diamond-encoded : encode (diamond 10) ≡ diamond-file 10
+unfolding encode flatMap diamond-file diamond step drawn-gate joins
+diamond-encoded = refl
+
+-- "empty file: 1, 0"
+pub empty-refused : decode [] ≡ refused 1 0
+unfolding decode read-field fault field-at
+empty-refused = refl
+
+-- "start 7 spare 3"
+pub diamond-start : start (block-of (diamond 10)) ≡ 7
+unfolding start source-by latest-in diamond step drawn-gate joins
+diamond-start = refl
+
+pub diamond-spare : spare (block-of (diamond 10)) ≡ pos 3
+unfolding spare start source-by latest-in diamond step drawn-gate joins
+diamond-spare = refl
+
+-- deadline 10: 0 0 2 3 saves 44U; 14: 0 2 4 5 saves 86U = 2,818,048; 7: 0 0 2 0 saves 8U; judging 0 0 0 3: 36U
+pub diamond-savings :
+    map (saving (block-of (diamond 10))) ((0 ∷ 0 ∷ 2 ∷ 3 ∷ []) ∷ (0 ∷ 2 ∷ 4 ∷ 5 ∷ []) ∷ (0 ∷ 0 ∷ 2 ∷ 0 ∷ []) ∷ (0 ∷ 0 ∷ 0 ∷ 3 ∷ []) ∷ [])
+    ≡ 44 * 32768 ∷ 2818048 ∷ 8 * 32768 ∷ 36 * 32768 ∷ []
+unfolding saving sum total gain input-activity drop-of activity diamond step drawn-gate joins
+diamond-savings = refl
