@@ -17,3 +17,4 @@ pub mod Bodies
 pub mod File
 pub mod Place
 pub mod Tried
+pub mod Stored
