@@ -2,22 +2,24 @@
 -- Assumes nothing.
 use mathlib.Core.Path.{_≡_, refl, sym, _∙_, ap, subst}
 use mathlib.Core.List.{List, [], _∷_, _++_, flatMap}
-use mathlib.Core.Bool.{_&&_}
+use mathlib.Core.Bool.{true, _&&_}
 use Prim.Native.Nat.{ℕ, zero, suc, _+_, _*_, _-_, _/_, _%_, _<_, _≤_}
 use native.Mathlib.Omega.{arith}
 use lib.Dec.{T, leb, eqb, leb→le, le→leb, eqb→eq}
 use lib.ListN.{length, getD, drop, length-drop}
 use lib.Seq.{ext-getD}
+use borrow.Author.Tests.{le-leb}
 use Rattle.lists.specs.Over.{build}
 use Rattle.lists.proofs.Bool.{and-left, and-right, and-both}
 use Rattle.lists.proofs.Over.{length-build, getD-build}
-use Rattle.model.proofs.Fields.{number-two-bytes, two-bytes-number, Bytes}
+use Rattle.model.proofs.Fields.{number-two-bytes, two-bytes-number, number-below, Bytes}
+use Rattle.model.proofs.Every.{and-true}
 use Rattle.model.proofs.Steps.{step-at, steps-by-index}
-use Rattle.model.specs.Limits.{max-steps}
+use Rattle.model.specs.Limits.{max-gates, max-steps, max-probability, max-time}
 use Rattle.model.specs.Block.{Step, Wire}
 use Rattle.model.specs.Netlist.{DrawnGate}
-use Rattle.model.specs.Field.{two-bytes}
-use Rattle.model.specs.File.{Due, block, gate, wire, Value, Header, length-fits, says, steps-in, header-body, step-bytes, gate-body, wire-body}
+use Rattle.model.specs.Field.{number, two-bytes}
+use Rattle.model.specs.File.{Due, block, gate, wire, Value, Header, length-fits, says, in-range, steps-in, header-body, step-bytes, gate-body, wire-body}
 
 -- the body of a field that says v
 abbrev pub body-of : (k : Due) → Value k → List ℕ
@@ -122,3 +124,12 @@ steps-said b t =
     let f = fitting-steps (length b) t in
     let e : length (drop 4 b) ≡ 4 * f .0 = omega (arith, length-drop 4 b, f .1) in
     omega (arith, ap length (steps-by-index (drop 4 b) (f .0) e), length-build (f .0) (step-at (drop 4 b)), f .2)
+
+-- arrival and deadline of bytes are in range, so that a block field has four numbers to test
+pub block-in-range : (b : List ℕ) → Bytes b → in-range block (says block b)
+    ≡ eqb (getD b 0 0) 1 && leb 1 (getD b 1 0) && leb (getD b 1 0) max-gates && leb (number b 6) max-probability
+block-in-range b bytes =
+    let h : number b 2 ≤ max-time = omega (arith, number-below b 2 bytes) in
+    let k : number b 4 ≤ max-time = omega (arith, number-below b 4 bytes) in
+    let c = eqb (getD b 0 0) 1 && leb 1 (getD b 1 0) && leb (getD b 1 0) max-gates in
+    rw (le-leb (number b 2) max-time h, le-leb (number b 4) max-time k, and-true (c && true), and-true c)

@@ -6,7 +6,9 @@ use mathlib.Core.Bool.{Bool, true, false, _&&_, _||_}
 use Prim.Native.Nat.{ℕ, zero, suc, _<_}
 use native.Mathlib.Nat.{not-suc-le-zero, le-of-suc-le-suc}
 use native.Mathlib.Omega.{arith}
+use lib.Dec.{T}
 use lib.ListN.{length, getD}
+use Rattle.lists.proofs.Bool.{and-left, and-right}
 use Rattle.lists.specs.Over.{build}
 use Rattle.model.specs.File.{every, some}
 
@@ -67,6 +69,20 @@ module _ {A : Type 0} (test : A → Bool) where
   every-fails [] i d h e = absurd (not-suc-le-zero h)
   every-fails (x ∷ xs) zero d h e = rw e
   every-fails (x ∷ xs) (suc i) d h e = rw (every-fails xs i d (le-of-suc-le-suc h) e) (and-false (test x))
+
+  -- what every element passes, each passes ..
+  pub every-at : (xs : List A) (i : ℕ) (d : A) → T (every test xs) → i < length xs → T (test (getD xs i d))
+  unfolding every
+  every-at [] i d t h = absurd (not-suc-le-zero h)
+  every-at (x ∷ xs) zero d t h = and-left (test x) (every test xs) t
+  every-at (x ∷ xs) (suc i) d t h = every-at xs i d (and-right (test x) (every test xs) t) (le-of-suc-le-suc h)
+
+  -- .. and so does what stands for a place beyond the end, if it passes
+  pub every-anywhere : (xs : List A) (i : ℕ) (d : A) → T (every test xs) → T (test d) → T (test (getD xs i d))
+  unfolding every
+  every-anywhere [] i d t u = u
+  every-anywhere (x ∷ xs) zero d t u = and-left (test x) (every test xs) t
+  every-anywhere (x ∷ xs) (suc i) d t u = every-anywhere xs i d (and-right (test x) (every test xs) t) u
 
   pub some-append : (xs ys : List A) → some test (xs ++ ys) ≡ some test xs || some test ys
   unfolding some

@@ -18,3 +18,4 @@ pub mod File
 pub mod Place
 pub mod Tried
 pub mod Stored
+pub mod Limited

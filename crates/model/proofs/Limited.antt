@@ -1,0 +1,271 @@
+-- The limits of a block that a file holds, as bounds on its numbers: for every gate, step and wire (document 01, "The block file"). The last theorem, `read-limits`, is what other crates cite for whatever `read-block` finds.
+-- Assumes nothing.
+use mathlib.Core.Path.{_≡_, refl, sym, subst}
+use mathlib.Core.Logic.{_≢_, ⊎-elim}
+use mathlib.Core.List.{List, [], _∷_}
+use mathlib.Core.Bool.{not, _&&_}
+use Prim.Native.Nat.{ℕ, zero, suc, _+_, _*_, _-_, _<_, _≤_}
+use native.Mathlib.Nat.{mul-le-mul-right, not-suc-le-zero, le-of-suc-le-suc}
+use native.Mathlib.Omega.{arith}
+use lib.Dec.{T, leb, ltb, eqb, leb→le, le→leb, ltb→lt, eqb→eq, eqb-refl, T-not}
+use lib.ListN.{length, getD, length-map, List·getD-map}
+use Rattle.lists.proofs.Bool.{and-left, and-right, and-both, is-true}
+use Rattle.lists.proofs.Compare.{le-or-lt}
+use Rattle.model.proofs.Every.{every-at, every-anywhere, some-passes}
+use Rattle.model.proofs.Fault.{found-is, faultless-from-0}
+use Rattle.model.proofs.Bodies.{steps-said}
+use Rattle.model.proofs.File.{decoded-is-limited}
+use Rattle.model.proofs.Reading.{then-found}
+use Rattle.model.specs.Limits.{max-gates, max-wires, max-steps, max-probability, max-delay, max-width, max-drop, max-time, max-activity}
+use Rattle.model.specs.Activity.{activity}
+use Rattle.model.specs.Block.{Step, Gate, Wire, Block, gate-count}
+use Rattle.model.specs.Block as Block
+use Rattle.model.specs.Netlist.{DrawnGate, Netlist, gate-of, block-of}
+use Rattle.model.specs.Field.{body-at}
+use Rattle.model.specs.File.{gate, wire, block, every, in-range, drops-fall, step-in-range, falls, falls-below, fresh, some, same-ends, all-fresh, header-of, Header, Limited, found, says, read-field, decode, read-block}
+
+-- ACTIVITY. The product of two numbers of sum 256 is at most 128 × 128: the one is as far below 128 as the other is above it.
+product-at-most : (p q : ℕ) → p ≤ 128 → p + q ≡ 256 → p * q ≤ 16384
+product-at-most p q h e =
+    let d : ℕ = 128 - p in
+    let f : q ≡ 128 + d = omega arith in
+    rw f (omega (arith, mul-le-mul-right d h))
+
+twice-at-most : (p q : ℕ) → p * q ≤ 16384 → 2 * p * q ≤ max-activity
+twice-at-most p q h = omega arith
+
+none-at-most : (p q : ℕ) → q ≡ 0 → p * q ≤ 16384
+none-at-most p q e = rw e (omega arith)
+
+turned : (p q : ℕ) → q * p ≤ 16384 → p * q ≤ 16384
+turned p q h = omega arith
+
+pub activity-at-most : (p : ℕ) → activity p ≤ max-activity
+unfolding activity
+activity-at-most p =
+    twice-at-most p (256 - p)
+    (⊎-elim (λ (h : p ≤ 128). product-at-most p (256 - p) h (omega arith))
+    (λ (h : 128 < p).
+    ⊎-elim (λ (k : p ≤ 256). turned p (256 - p) (product-at-most (256 - p) p (omega arith) (omega arith)))
+    (λ (k : 256 < p). none-at-most p (256 - p) (omega arith))
+    (le-or-lt p 256))
+    (le-or-lt p 128))
+
+-- STEPS
+pub record StepLimits (s : Step) : Type 0 where
+  pub width-least : 1 ≤ s .width
+  pub width-most : s .width ≤ max-width
+  pub drop-least : 1 ≤ s .drop
+  pub drop-most : s .drop ≤ max-drop
+
+step-limits : (s : Step) → T (step-in-range s) → StepLimits s
+step-limits s t =
+    let a = leb 1 (s .width) in
+    let b = leb (s .width) max-width in
+    let c = leb 1 (s .drop) in
+    let d = leb (s .drop) max-drop in
+    let u : T (a && b && c) = and-left (a && b && c) d t in
+    let v : T (a && b) = and-left (a && b) c u in
+    record {
+      width-least = leb→le 1 (s .width) (and-left a b v);
+      width-most = leb→le (s .width) max-width (and-right a b v);
+      drop-least = leb→le 1 (s .drop) (and-right (a && b) c u);
+      drop-most = leb→le (s .drop) max-drop (and-right (a && b && c) d t);
+    }
+
+falls-below-at : (s : Step) (ss : List Step) (j : ℕ) (d : Step) → T (falls-below (s .drop) ss) → j < length ss → getD ss j d .drop < getD (s ∷ ss) j d .drop
+unfolding falls-below
+falls-below-at s [] j d t h = absurd (not-suc-le-zero h)
+falls-below-at s (r ∷ ss) zero d t h = ltb→lt (r .drop) (s .drop) (and-left (ltb (r .drop) (s .drop)) (falls-below (r .drop) ss) t)
+falls-below-at s (r ∷ ss) (suc j) d t h = falls-below-at r ss j d (and-right (ltb (r .drop) (s .drop)) (falls-below (r .drop) ss) t) (le-of-suc-le-suc h)
+
+falls-at : (ss : List Step) (j : ℕ) (d : Step) → T (falls ss) → suc j < length ss → getD ss (suc j) d .drop < getD ss j d .drop
+unfolding falls
+falls-at [] j d t h = absurd (not-suc-le-zero h)
+falls-at (s ∷ ss) j d t h = falls-below-at s ss j d t (le-of-suc-le-suc h)
+
+-- GATES
+pub record GateLimits (g : Gate) : Type 0 where
+  pub delay-most : g .delay ≤ max-delay
+  pub activity-most : g .activity ≤ max-activity
+  pub step-count : length (g .steps) ≤ max-steps
+  pub step-limits : (j : ℕ) (d : Step) → j < length (g .steps) → StepLimits (getD (g .steps) j d)
+  pub drops-fall : (j : ℕ) (d : Step) → suc j < length (g .steps) → getD (g .steps) (suc j) d .drop < getD (g .steps) j d .drop
+
+drawn-limits : (g : DrawnGate) → T (in-range gate g) → T (leb (length (g .steps)) max-steps) → T (drops-fall gate g) → GateLimits (gate-of g)
+drawn-limits g r c f =
+    let a = leb (g .delay) max-delay in
+    let b = leb (g .probability) max-probability in
+    let u : T (a && b) = and-left (a && b) (every step-in-range (g .steps)) r in
+    let v : T (every step-in-range (g .steps)) = and-right (a && b) (every step-in-range (g .steps)) r in
+    record {
+      delay-most = leb→le (g .delay) max-delay (and-left a b u);
+      activity-most = activity-at-most (g .probability);
+      step-count = leb→le (length (g .steps)) max-steps c;
+      step-limits = λ (j : ℕ) (d : Step) (h : j < length (g .steps)). step-limits (getD (g .steps) j d) (every-at step-in-range (g .steps) j d v h);
+      drops-fall = λ (j : ℕ) (d : Step) (h : suc j < length (g .steps)). falls-at (g .steps) j d f h;
+    }
+
+-- a drawn gate that no number names
+abbrev no-drawn : DrawnGate
+no-drawn = record { delay = 0; probability = 0; steps = [] }
+
+gate-is : (N : Netlist) (g : ℕ) → Block.gate (block-of N) g ≡ gate-of (getD (N .gates) g no-drawn)
+unfolding activity
+gate-is N g = List·getD-map gate-of (N .gates) g no-drawn
+
+gate-limits : {N : Netlist} → Limited N → (g : ℕ) → GateLimits (Block.gate (block-of N) g)
+unfolding every falls
+gate-limits {N} l g =
+    rw (gate-is N g)
+    (drawn-limits (getD (N .gates) g no-drawn) (every-anywhere (in-range gate) (N .gates) g no-drawn (l .gates) tt)
+    (every-anywhere (λ (x : DrawnGate). leb (length (x .steps)) max-steps) (N .gates) g no-drawn (l .steps) tt)
+    (every-anywhere (drops-fall gate) (N .gates) g no-drawn (l .drops) tt))
+
+-- WIRES
+pub record WireLimits (n : ℕ) (w : Wire) : Type 0 where
+  pub source-below : w .source < n
+  pub target-below : w .target < n
+  pub apart : w .source ≢ w .target
+  pub undelayed : w .delay ≡ 0
+
+eqb-of : (a b : ℕ) → a ≡ b → T (eqb a b)
+eqb-of a b e = subst (λ (k : ℕ). T (eqb a k)) e (eqb-refl a)
+
+fresh-apart : (seen : List Wire) (w : Wire) → T (fresh seen w) → w .source ≢ w .target
+fresh-apart seen w t e =
+    T-not (eqb (w .source) (w .target)) (and-left (not (eqb (w .source) (w .target))) (not (some (same-ends w) seen)) t) (eqb-of (w .source) (w .target) e)
+
+all-apart : (seen ws : List Wire) (i : ℕ) (d : Wire) → T (all-fresh seen ws) → i < length ws → getD ws i d .source ≢ getD ws i d .target
+unfolding all-fresh
+all-apart seen [] i d t h = absurd (not-suc-le-zero h)
+all-apart seen (w ∷ ws) zero d t h = fresh-apart seen w (and-left (fresh seen w) (all-fresh (w ∷ seen) ws) t)
+all-apart seen (w ∷ ws) (suc i) d t h = all-apart (w ∷ seen) ws i d (and-right (fresh seen w) (all-fresh (w ∷ seen) ws) t) (le-of-suc-le-suc h)
+
+fresh-unseen : (seen : List Wire) (w : Wire) (k : ℕ) (d : Wire) → T (fresh seen w) → k < length seen → T (same-ends w (getD seen k d)) → ⊥
+fresh-unseen seen w k d t h s =
+    T-not (some (same-ends w) seen) (and-right (not (eqb (w .source) (w .target))) (not (some (same-ends w) seen)) t)
+    (subst T (sym (some-passes (same-ends w) seen k d h (is-true (same-ends w (getD seen k d)) s))) tt)
+
+unseen-at : (seen ws : List Wire) (k j : ℕ) (d : Wire) → T (all-fresh seen ws) → k < length seen → j < length ws → T (same-ends (getD ws j d) (getD seen k d)) → ⊥
+unfolding all-fresh
+unseen-at seen [] k j d t h l s = not-suc-le-zero l
+unseen-at seen (w ∷ ws) k zero d t h l s = fresh-unseen seen w k d (and-left (fresh seen w) (all-fresh (w ∷ seen) ws) t) h s
+unseen-at seen (w ∷ ws) k (suc j) d t h l s = unseen-at (w ∷ seen) ws (suc k) j d (and-right (fresh seen w) (all-fresh (w ∷ seen) ws) t) (omega arith) (le-of-suc-le-suc l) s
+
+none-twice : (seen ws : List Wire) (i j : ℕ) (d : Wire) → T (all-fresh seen ws) → i < j → j < length ws → T (same-ends (getD ws j d) (getD ws i d)) → ⊥
+unfolding all-fresh
+none-twice seen [] i j d t h l s = not-suc-le-zero l
+none-twice seen (w ∷ ws) i zero d t h l s = not-suc-le-zero h
+none-twice seen (w ∷ ws) zero (suc j) d t h l s = unseen-at (w ∷ seen) ws 0 j d (and-right (fresh seen w) (all-fresh (w ∷ seen) ws) t) (omega arith) (le-of-suc-le-suc l) s
+none-twice seen (w ∷ ws) (suc i) (suc j) d t h l s = none-twice (w ∷ seen) ws i j d (and-right (fresh seen w) (all-fresh (w ∷ seen) ws) t) (le-of-suc-le-suc h) (le-of-suc-le-suc l) s
+
+wire-limits : (n : ℕ) (w : Wire) → T (in-range (wire n []) w) → w .source ≢ w .target → w .delay ≡ 0 → WireLimits n w
+wire-limits n w r apart e = record {
+  source-below = ltb→lt (w .source) n (and-left (ltb (w .source) n) (ltb (w .target) n) r);
+  target-below = ltb→lt (w .target) n (and-right (ltb (w .source) n) (ltb (w .target) n) r);
+  apart = apart;
+  undelayed = e;
+}
+
+-- THE BLOCK
+pub record BlockLimits (B : Block) : Type 0 where
+  pub some-gate : 1 ≤ gate-count B
+  pub gates-most : gate-count B ≤ max-gates
+  pub arrival-most : B .arrival ≤ max-time
+  pub deadline-most : B .deadline ≤ max-time
+  pub activity-most : B .activity ≤ max-activity
+  pub gate-limits : (g : ℕ) → GateLimits (Block.gate B g)
+  pub wires-most : length (B .wires) ≤ max-wires
+  pub wire-limits : (i : ℕ) (d : Wire) → i < length (B .wires) → WireLimits (gate-count B) (getD (B .wires) i d)
+  pub no-wire-twice : (i j : ℕ) (d : Wire) → i < j → j < length (B .wires) → getD (B .wires) j d .source ≡ getD (B .wires) i d .source → getD (B .wires) j d .target ≢ getD (B .wires) i d .target
+
+wire-limits-at : {N : Netlist} → Limited N → (i : ℕ) (d : Wire) → i < length (N .wires) → WireLimits (length (N .gates)) (getD (N .wires) i d)
+wire-limits-at {N} l i d h =
+    let w = getD (N .wires) i d in
+    let n = length (N .gates) in
+    wire-limits n w (every-at (in-range (wire n [])) (N .wires) i d (l .wires) h) (all-apart [] (N .wires) i d (l .no-wire-twice) h)
+    (eqb→eq (w .delay) 0 (every-at (λ (x : Wire). eqb (x .delay) 0) (N .wires) i d (l .undelayed) h))
+
+-- the numbers of a block field
+pub record HeaderLimits (h : Header) : Type 0 where
+  pub edition-is : h .edition ≡ 1
+  pub some-gate : 1 ≤ h .gate-count
+  pub gates-most : h .gate-count ≤ max-gates
+  pub arrival-most : h .arrival ≤ max-time
+  pub deadline-most : h .deadline ≤ max-time
+  pub probability-most : h .probability ≤ max-probability
+
+header-limits : (h : Header) → T (in-range block h) → HeaderLimits h
+header-limits h t =
+    let n = h .gate-count in
+    let a = eqb (h .edition) 1 in
+    let b = leb 1 n in
+    let c = leb n max-gates in
+    let d = leb (h .arrival) max-time in
+    let e = leb (h .deadline) max-time in
+    let f = leb (h .probability) max-probability in
+    let u : T (a && b && c && d && e) = and-left (a && b && c && d && e) f t in
+    let v : T (a && b && c && d) = and-left (a && b && c && d) e u in
+    let w : T (a && b && c) = and-left (a && b && c) d v in
+    let x : T (a && b) = and-left (a && b) c w in
+    record {
+      edition-is = eqb→eq (h .edition) 1 (and-left a b x);
+      some-gate = leb→le 1 n (and-right a b x);
+      gates-most = leb→le n max-gates (and-right (a && b) c w);
+      arrival-most = leb→le (h .arrival) max-time (and-right (a && b && c) d v);
+      deadline-most = leb→le (h .deadline) max-time (and-right (a && b && c && d) e u);
+      probability-most = leb→le (h .probability) max-probability (and-right (a && b && c && d && e) f t);
+    }
+
+pub limited-block : {N : Netlist} → Limited N → BlockLimits (block-of N)
+limited-block {N} l =
+    let h = header-limits (header-of N) (l .header) in
+    let m : gate-count (block-of N) ≡ length (N .gates) = length-map (N .gates) gate-of in
+    record {
+      some-gate = rw m (h .some-gate);
+      gates-most = rw m (h .gates-most);
+      arrival-most = h .arrival-most;
+      deadline-most = h .deadline-most;
+      activity-most = activity-at-most (N .probability);
+      gate-limits = gate-limits l;
+      wires-most = l .wire-count;
+      wire-limits = λ (i : ℕ) (y : Wire) (h : i < length (N .wires)). rw m (wire-limits-at l i y h);
+      no-wire-twice = λ (i j : ℕ) (y : Wire) (h : i < j) (k : j < length (N .wires))
+          (p : getD (N .wires) j y .source ≡ getD (N .wires) i y .source)
+          (q : getD (N .wires) j y .target ≡ getD (N .wires) i y .target).
+          none-twice [] (N .wires) i j y (l .no-wire-twice) h k
+          (and-both (eqb (getD (N .wires) j y .source) (getD (N .wires) i y .source)) (eqb (getD (N .wires) j y .target) (getD (N .wires) i y .target))
+          (eqb-of (getD (N .wires) j y .source) (getD (N .wires) i y .source) p)
+          (eqb-of (getD (N .wires) j y .target) (getD (N .wires) i y .target) q));
+    }
+
+-- ONE FIELD: what is found is within the limits.
+module _ (s : List ℕ) (o : ℕ) {p : ℕ} where
+  pub found-header-limits : {h : Header} → read-field block s o ≡ found h p → HeaderLimits h
+  found-header-limits e =
+      let i = found-is block s o e in
+      subst HeaderLimits (sym (i .says-it)) (header-limits (says block (body-at s o)) (faultless-from-0 block s o (i .no-fault) .ranges))
+
+  pub found-gate-limits : (g : DrawnGate) → read-field gate s o ≡ found g p → GateLimits (gate-of g)
+  found-gate-limits g e =
+      let i = found-is gate s o e in
+      let f = faultless-from-0 gate s o (i .no-fault) in
+      let b = body-at s o in
+      subst (λ (x : DrawnGate). GateLimits (gate-of x)) (sym (i .says-it))
+      (drawn-limits (says gate b) (f .ranges) (le→leb (length (says gate b .steps)) max-steps (steps-said b (f .length-due))) (f .drops))
+
+  pub found-wire-limits : (n : ℕ) (seen : List Wire) {w : Wire} → read-field (wire n seen) s o ≡ found w p → WireLimits n w
+  found-wire-limits n seen e =
+      let i = found-is (wire n seen) s o e in
+      let f = faultless-from-0 (wire n seen) s o (i .no-fault) in
+      let w = says (wire n seen) (body-at s o) in
+      subst (WireLimits n) (sym (i .says-it)) (wire-limits n w (f .ranges) (fresh-apart seen w (f .unseen)) refl)
+
+-- Whatever block a file holds is within the limits.
+pub read-limits : (s : List ℕ) {B : Block} {o : ℕ} → read-block s ≡ found B o → BlockLimits B
+unfolding read-block
+read-limits s {B} {o} e =
+    let d = then-found (decode s) (λ (N : Netlist) (p : ℕ). found (block-of N) p) e in
+    let b : block-of (d .value) ≡ B = cc (d .went-on) in
+    subst BlockLimits b (limited-block (decoded-is-limited s (d .was-found)))
