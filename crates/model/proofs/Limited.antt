@@ -15,7 +15,7 @@ use Rattle.model.proofs.Every.{every-at, every-anywhere, some-passes}
 use Rattle.model.proofs.Fault.{found-is, faultless-from-0}
 use Rattle.model.proofs.Bodies.{steps-said}
 use Rattle.model.proofs.File.{decoded-is-limited}
-use Rattle.model.proofs.Reading.{then-found}
+use Rattle.model.proofs.Reading.{made-found}
 use Rattle.model.specs.Limits.{max-gates, max-wires, max-steps, max-probability, max-delay, max-width, max-drop, max-time, max-activity}
 use Rattle.model.specs.Activity.{activity}
 use Rattle.model.specs.Block.{Step, Gate, Wire, Block, gate-count}
@@ -265,7 +265,6 @@ module _ (s : List ℕ) (o : ℕ) {p : ℕ} where
 -- Whatever block a file holds is within the limits.
 pub read-limits : (s : List ℕ) {B : Block} {o : ℕ} → read-block s ≡ found B o → BlockLimits B
 unfolding read-block
-read-limits s {B} {o} e =
-    let d = then-found (decode s) (λ (N : Netlist) (p : ℕ). found (block-of N) p) e in
-    let b : block-of (d .value) ≡ B = cc (d .went-on) in
-    subst BlockLimits b (limited-block (decoded-is-limited s (d .was-found)))
+read-limits s e =
+    let d = made-found (decode s) block-of e in
+    subst BlockLimits (sym (d .made)) (limited-block (decoded-is-limited s (d .was-found)))

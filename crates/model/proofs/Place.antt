@@ -2,7 +2,6 @@
 -- The idea: a data type of the places to which faultless fields lead; `decode` walks along them.
 -- Assumes nothing.
 use mathlib.Core.Path.{_≡_, refl, sym, _∙_, ap, subst, subst₂}
-use mathlib.Core.Logic.{⊎-elim}
 use mathlib.Core.List.{List, [], _∷_, _++_, reverse, reverse-append}
 use mathlib.Core.Bool.{true, false}
 use Prim.Native.Nat.{ℕ, zero, suc, _+_, _<_, _≤_}
@@ -12,7 +11,7 @@ use lib.ListN.{length, length-reverse}
 use borrow.Author.Tests.{leb-true, leb-false}
 use Rattle.lists.proofs.Bool.{cases}
 use Rattle.model.proofs.Fault.{faultless-from-0, fault-at-most-6, read-found, read-refused, found-is, refused-is}
-use Rattle.model.proofs.Reading.{Before, then-refused, read-gates-none, read-gates-suc, read-gates-more, read-gates-refused, read-wires-ended, read-wires-full, read-wires-next, WiresRead, wires-none, wires-more, wires-full, wires-refused, read-in-file-order, decode-block-refused, decode-gates-refused, decode-wires-refused}
+use Rattle.model.proofs.Reading.{refused-cases, made-refused, read-gates-none, read-gates-suc, read-gates-more, read-gates-refused, read-wires-ended, read-wires-full, read-wires-next, WiresRead, wires-none, wires-more, wires-full, wires-refused, read-in-file-order, decode-block-refused, decode-gates-refused, decode-wires-refused}
 use Rattle.model.specs.Limits.{max-wires}
 use Rattle.model.specs.Block.{Wire}
 use Rattle.model.specs.Netlist.{DrawnGate, Netlist}
@@ -83,18 +82,10 @@ found-not-refused e =
 gates-at-fault : {s : List ℕ} {n : ℕ} (left o : ℕ) {k p : ℕ} → Passed s (at-gates n left) o → read-gates left s o ≡ refused k p → AtFault s k p
 unfolding read-gates
 gates-at-fault zero o r e = found-not-refused e
-gates-at-fault {s} {n} (suc left) o {k} {p} r e =
-    ⊎-elim
-    (λ (f : read-field gate s o ≡ refused k p). refused-faulty gate o k (gate-due r) f)
-    (λ (b : Before (read-field gate s o) next (refused k p)).
-    ⊎-elim
-    (λ (f : read-gates left s (b .offset) ≡ refused k p). gates-at-fault left (b .offset) (gate-found r (b .was-found)) f)
-    (λ (c : Before (read-gates left s (b .offset)) (λ (gs : List DrawnGate) (q : ℕ). found (b .value ∷ gs) q) (refused k p)). found-not-refused (c .went-on))
-    (then-refused (read-gates left s (b .offset)) (λ (gs : List DrawnGate) (q : ℕ). found (b .value ∷ gs) q) (b .went-on)))
-    (then-refused (read-field gate s o) next e)
-  where
-    next : DrawnGate → ℕ → Reading (List DrawnGate)
-    next g q = and-then (read-gates left s q) (λ (gs : List DrawnGate) (q : ℕ). found (g ∷ gs) q)
+gates-at-fault {s} (suc left) o {k} {p} r e =
+    refused-cases (read-field gate s o) (λ (g : DrawnGate) (q : ℕ). and-then (read-gates left s q) (λ (gs : List DrawnGate) (t : ℕ). found (g ∷ gs) t)) e
+    (refused-faulty gate o k (gate-due r))
+    (λ g q f later. gates-at-fault left q (gate-found r f) (made-refused (read-gates left s q) (λ (gs : List DrawnGate). g ∷ gs) later))
 
 wires-at-fault : {s : List ℕ} {n : ℕ} (room o : ℕ) {seen : List Wire} {k p : ℕ} → Passed s (at-wires n seen) o → room + length seen ≡ max-wires → read-wires room n seen s o ≡ refused k p → AtFault s k p
 wires-at-fault {s} {n} zero o {seen} {k} {p} r l e =
@@ -112,41 +103,24 @@ wires-at-fault {s} {n} (suc room) o {seen} {k} {p} r l e =
     (λ (t : leb (length s) o ≡ false).
     let h : o < length s = leb-false (length s) o t in
     let m : length seen < max-wires = omega arith in
-    ⊎-elim
-    (λ (f : read-field (wire n seen) s o ≡ refused k p). refused-faulty (wire n seen) o k (wire-due r m h) f)
-    (λ (b : Before (read-field (wire n seen) s o) next (refused k p)).
-    ⊎-elim
-    (λ (f : read-wires room n (b .value ∷ seen) s (b .offset) ≡ refused k p). wires-at-fault room (b .offset) (wire-found r m h (b .was-found)) (omega arith) f)
-    (λ (c : Before (read-wires room n (b .value ∷ seen) s (b .offset)) (λ (ws : List Wire) (q : ℕ). found (b .value ∷ ws) q) (refused k p)). found-not-refused (c .went-on))
-    (then-refused (read-wires room n (b .value ∷ seen) s (b .offset)) (λ (ws : List Wire) (q : ℕ). found (b .value ∷ ws) q) (b .went-on)))
-    (then-refused (read-field (wire n seen) s o) next (sym (read-wires-next n seen s o room h) ∙ e)))
-  where
-    next : Wire → ℕ → Reading (List Wire)
-    next w q = and-then (read-wires room n (w ∷ seen) s q) (λ (ws : List Wire) (q : ℕ). found (w ∷ ws) q)
+    refused-cases (read-field (wire n seen) s o) (λ (w : Wire) (q : ℕ). and-then (read-wires room n (w ∷ seen) s q) (λ (ws : List Wire) (t : ℕ). found (w ∷ ws) t))
+    (sym (read-wires-next n seen s o room h) ∙ e)
+    (refused-faulty (wire n seen) o k (wire-due r m h))
+    (λ w q f later. wires-at-fault room q (wire-found r m h f) (omega arith) (made-refused (read-wires room n (w ∷ seen) s q) (λ (ws : List Wire). w ∷ ws) later)))
 
 -- A refused file is at fault at the place of the refusal.
 pub refused-at-fault : (s : List ℕ) {k o : ℕ} → decode s ≡ refused k o → AtFault s k o
 unfolding decode
-refused-at-fault s {k} {o} e =
-    ⊎-elim
-    (λ (f : read-field block s 0 ≡ refused k o). refused-faulty block 0 k block-due f)
-    (λ (b : Before (read-field block s 0) gates-next (refused k o)).
-    ⊎-elim
-    (λ (f : read-gates (b .value .gate-count) s (b .offset) ≡ refused k o). gates-at-fault (b .value .gate-count) (b .offset) (block-found (b .was-found)) f)
-    (λ (c : Before (read-gates (b .value .gate-count) s (b .offset)) (wires-next (b .value)) (refused k o)).
-    ⊎-elim
-    (λ (f : read-wires max-wires (b .value .gate-count) [] s (c .offset) ≡ refused k o).
-    wires-at-fault max-wires (c .offset) (gates-found (b .value .gate-count) (b .offset) (block-found (b .was-found)) (c .was-found)) refl f)
-    (λ (d : Before (read-wires max-wires (b .value .gate-count) [] s (c .offset)) (all (b .value) (c .value)) (refused k o)). found-not-refused (d .went-on))
-    (then-refused (read-wires max-wires (b .value .gate-count) [] s (c .offset)) (all (b .value) (c .value)) (c .went-on)))
-    (then-refused (read-gates (b .value .gate-count) s (b .offset)) (wires-next (b .value)) (b .went-on)))
-    (then-refused (read-field block s 0) gates-next e)
+refused-at-fault s {k} e =
+    refused-cases (read-field block s 0) gates-next e (refused-faulty block 0 k block-due)
+    (λ h o f later.
+    refused-cases (read-gates (h .gate-count) s o) (wires-next h) later (gates-at-fault (h .gate-count) o (block-found f))
+    (λ gs p g last.
+    wires-at-fault max-wires p (gates-found (h .gate-count) o (block-found f) g) refl
+    (made-refused (read-wires max-wires (h .gate-count) [] s p) (netlist h gs) last)))
   where
-    all : Header → List DrawnGate → List Wire → ℕ → Reading Netlist
-    all h gs ws q = found (netlist h gs ws) q
-
     wires-next : Header → List DrawnGate → ℕ → Reading Netlist
-    wires-next h gs p = and-then (read-wires max-wires (h .gate-count) [] s p) (all h gs)
+    wires-next h gs p = and-then (read-wires max-wires (h .gate-count) [] s p) (λ (ws : List Wire) (q : ℕ). found (netlist h gs ws) q)
 
     gates-next : Header → ℕ → Reading Netlist
     gates-next h o = and-then (read-gates (h .gate-count) s o) (wires-next h)

@@ -1,8 +1,7 @@
 -- Reading one field at a time, for loops that store what they read: the invariants that hold when so many gates or wires are read, and the laws that carry them on, end them, or refuse the whole.
 -- Assumes nothing.
-use mathlib.Core.Path.{_≡_, refl, sym, _∙_, ap, subst₂}
+use mathlib.Core.Path.{_≡_, refl, sym, _∙_, ap, subst, subst₂}
 use mathlib.Core.List.{List, [], _∷_, _++_, append-nil, reverse, reverse-append}
-use mathlib.Core.Logic.{_⊎_, inl, inr}
 use mathlib.Core.Bool.{true, false}
 use lib.Dec.{leb}
 use Prim.Native.Nat.{ℕ, zero, suc, _+_, _-_, _<_, _≤_}
@@ -22,12 +21,18 @@ use Rattle.model.specs.declared.Field.the-variants.{NoHeader, NoBody, Wh
 use Rattle.model.specs.Field.{field-at, body-at}
 use Rattle.model.specs.File.{gate, wire, block, Header, Reading, found, refused, and-then, read-field, read-gates, read-wires, netlist, decode, same-ends, says, fault-of, fault, read-block}
 
--- Something was found, and reading went on from there.
+-- WHAT READING CAME TO. Something was found, and reading went on from there ..
 pub record Before {A B : Type 0} (r : Reading A) (next : A → ℕ → Reading B) (end : Reading B) : Type 0 where
   pub value : A
   pub offset : ℕ
   pub was-found : r ≡ found value offset
   pub went-on : next value offset ≡ end
+
+-- .. or it was made into b and reading ended there.
+pub record Made {A B : Type 0} (r : Reading A) (f : A → B) (b : B) (p : ℕ) : Type 0 where
+  pub value : A
+  pub was-found : r ≡ found value p
+  pub made : b ≡ f value
 
 module _ {A B : Type 0} where
   pub then-found : (r : Reading A) (next : A → ℕ → Reading B) {b : B} {p : ℕ} → and-then r next ≡ found b p → Before r next (found b p)
@@ -36,12 +41,30 @@ module _ {A B : Type 0} where
       let z : _≡_ {A = ℕ} 0 1 = cc in
       absurd (omega arith)
 
-  pub then-refused : (r : Reading A) (next : A → ℕ → Reading B) {k p : ℕ} → and-then r next ≡ refused k p → (r ≡ refused k p) ⊎ Before r next (refused k p)
-  then-refused (found a o) next e = inr (record { value = a; offset = o; was-found = refl; went-on = e })
-  then-refused (refused j o) next {k} {p} e =
+  pub made-found : (r : Reading A) (f : A → B) {b : B} {p : ℕ} → and-then r (λ (a : A) (o : ℕ). found (f a) o) ≡ found b p → Made r f b p
+  made-found (found a o) f {b} {p} e =
+      let x : o ≡ p = cc in
+      record { value = a; was-found = ap (found a) x; made = cc }
+  made-found (refused k o) f e =
+      let z : _≡_ {A = ℕ} 0 1 = cc in
+      absurd (omega arith)
+
+  -- a refusal comes from the first reading or from what follows
+  pub refused-cases : {C : Type 0} (r : Reading A) (next : A → ℕ → Reading B) {k p : ℕ} → and-then r next ≡ refused k p → (r ≡ refused k p → C) → ((a : A) (o : ℕ) → r ≡ found a o → next a o ≡ refused k p → C) → C
+  refused-cases (found a o) next e here later = later a o refl e
+  refused-cases (refused j o) next {k} {p} e here later =
       let x : j ≡ k = cc in
       let y : o ≡ p = cc in
-      inl (cc)
+      here (cc)
+
+  pub made-refused : (r : Reading A) (f : A → B) {k p : ℕ} → and-then r (λ (a : A) (o : ℕ). found (f a) o) ≡ refused k p → r ≡ refused k p
+  made-refused (found a o) f e =
+      let z : _≡_ {A = ℕ} 0 1 = cc in
+      absurd (omega arith)
+  made-refused (refused j o) f {k} {p} e =
+      let x : j ≡ k = cc in
+      let y : o ≡ p = cc in
+      cc
 
 -- GATES. While i gates gs are read from p up to o, `read-gates i s p ≡ found gs o` holds.
 pub read-gates-none : (s : List ℕ) (p : ℕ) → read-gates 0 s p ≡ found [] p
@@ -73,17 +96,16 @@ module _ (s : List ℕ) where
 
   pub read-gates-suc : (n p : ℕ) {gs : List DrawnGate} {o : ℕ} → read-gates (suc n) s p ≡ found gs o → FirstRead n p gs o
   unfolding read-gates
-  read-gates-suc n p {gs} {o} e =
+  read-gates-suc n p e =
       let x = then-found (read-field gate s p) (λ (g : DrawnGate) (q : ℕ). and-then (read-gates n s q) (λ (hs : List DrawnGate) (r : ℕ). found (g ∷ hs) r)) e in
-      let y = then-found (read-gates n s (x .offset)) (λ (hs : List DrawnGate) (r : ℕ). found (x .value ∷ hs) r) (x .went-on) in
-      let a : y .offset ≡ o = cc (y .went-on) in
+      let y = made-found (read-gates n s (x .offset)) (λ (hs : List DrawnGate). x .value ∷ hs) (x .went-on) in
       record {
         first = x .value;
         rest = y .value;
         behind = x .offset;
         first-read = x .was-found;
-        rest-read = y .was-found ∙ ap (found (y .value)) a;
-        all = cc (y .went-on);
+        rest-read = y .was-found;
+        all = y .made;
       }
 
   pub read-gates-length : (n p : ℕ) {gs : List DrawnGate} {o : ℕ} → read-gates n s p ≡ found gs o → length gs ≡ n
@@ -177,11 +199,9 @@ wires-found n s (suc room) seen o {ws} {p} e =
     (λ (t : leb (length s) o ≡ false).
     let h : o < length s = leb-false (length s) o t in
     let x = then-found (read-field (wire n seen) s o) (λ (w : Wire) (q : ℕ). and-then (read-wires room n (w ∷ seen) s q) (λ (vs : List Wire) (r : ℕ). found (w ∷ vs) r)) (sym (read-wires-next n seen s o room h) ∙ e) in
-    let y = then-found (read-wires room n (x .value ∷ seen) s (x .offset)) (λ (vs : List Wire) (r : ℕ). found (x .value ∷ vs) r) (x .went-on) in
-    let a : x .value ∷ y .value ≡ ws = cc (y .went-on) in
-    let b : y .offset ≡ p = cc (y .went-on) in
-    subst₂ (λ (l : List Wire) (q : ℕ). WiresFound n s (suc room) seen o l q) a b
-    (next h (x .was-found) (wires-found n s room (x .value ∷ seen) (x .offset) (y .was-found))))
+    let y = made-found (read-wires room n (x .value ∷ seen) s (x .offset)) (λ (vs : List Wire). x .value ∷ vs) (x .went-on) in
+    subst (λ (l : List Wire). WiresFound n s (suc room) seen o l p) (sym {b = x .value ∷ y .value} (y .made))
+    (next {ws = y .value} h (x .was-found) (wires-found n s room (x .value ∷ seen) (x .offset) (y .was-found))))
 
 -- wires found end with the bytes
 pub wires-found-end : {n : ℕ} {s : List ℕ} {room : ℕ} {seen : List Wire} {o : ℕ} {ws : List Wire} {p : ℕ} → WiresFound n s room seen o ws p → o ≤ length s → p ≡ length s
@@ -283,12 +303,11 @@ pub record Decoded (s : List ℕ) (N : Netlist) (o : ℕ) : Type 0 where
 
 pub decoded-is : (s : List ℕ) {N : Netlist} {o : ℕ} → decode s ≡ found N o → Decoded s N o
 unfolding decode
-decoded-is s {N} {o} e =
+decoded-is s e =
     let x = then-found (read-field block s 0) (λ (h : Header) (o : ℕ). and-then (read-gates (h .gate-count) s o) (λ (gs : List DrawnGate) (p : ℕ). and-then (read-wires max-wires (h .gate-count) [] s p) (λ (ws : List Wire) (q : ℕ). found (netlist h gs ws) q))) e in
     let h = x .value in
     let y = then-found (read-gates (h .gate-count) s (x .offset)) (λ (gs : List DrawnGate) (p : ℕ). and-then (read-wires max-wires (h .gate-count) [] s p) (λ (ws : List Wire) (q : ℕ). found (netlist h gs ws) q)) (x .went-on) in
-    let z = then-found (read-wires max-wires (h .gate-count) [] s (y .offset)) (λ (ws : List Wire) (q : ℕ). found (netlist h (y .value) ws) q) (y .went-on) in
-    let a : z .offset ≡ o = cc (z .went-on) in
+    let z = made-found (read-wires max-wires (h .gate-count) [] s (y .offset)) (netlist h (y .value)) (y .went-on) in
     record {
       header = h;
       gates-at = x .offset;
@@ -297,13 +316,13 @@ decoded-is s {N} {o} e =
       wires = z .value;
       header-read = x .was-found;
       gates-read = y .was-found;
-      wires-read = z .was-found ∙ ap (found (z .value)) a;
-      all = cc (z .went-on);
+      wires-read = z .was-found;
+      all = z .made;
     }
 
 -- a file that is decoded is read to its end
 pub decoded-to-end : (s : List ℕ) {N : Netlist} {o : ℕ} → decode s ≡ found N o → o ≡ length s
-decoded-to-end s {o = o} e =
+decoded-to-end s e =
     let d = decoded-is s e in
     let a : d .gates-at ≤ length s = found-inside block s 0 (d .header-read) in
     let b : d .wires-at ≤ length s = read-gates-inside s (d .header .gate-count) (d .gates-at) a (d .gates-read) in
