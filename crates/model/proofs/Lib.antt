@@ -19,3 +19,4 @@ pub mod Place
 pub mod Tried
 pub mod Stored
 pub mod Limited
+pub mod Encoded

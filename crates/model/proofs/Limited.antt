@@ -58,7 +58,7 @@ pub record StepLimits (s : Step) : Type 0 where
   pub drop-least : 1 ≤ s .drop
   pub drop-most : s .drop ≤ max-drop
 
-step-limits : (s : Step) → T (step-in-range s) → StepLimits s
+pub step-limits : (s : Step) → T (step-in-range s) → StepLimits s
 step-limits s t =
     let a = leb 1 (s .width) in
     let b = leb (s .width) max-width in
@@ -196,7 +196,7 @@ pub record HeaderLimits (h : Header) : Type 0 where
   pub deadline-most : h .deadline ≤ max-time
   pub probability-most : h .probability ≤ max-probability
 
-header-limits : (h : Header) → T (in-range block h) → HeaderLimits h
+pub header-limits : (h : Header) → T (in-range block h) → HeaderLimits h
 header-limits h t =
     let n = h .gate-count in
     let a = eqb (h .edition) 1 in

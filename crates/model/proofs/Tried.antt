@@ -1,15 +1,16 @@
--- Diamond D of document 01, "Blocks tried by hand": its bytes are decoded to the netlist that is meant, and its start, spare and savings are those that the document gives. All by computation.
+-- Diamond D of document 01, "Blocks tried by hand": its bytes are decoded to the netlist that is meant, and its start, spare and savings are those that the document gives; and small files with their refusals. All by computation.
 -- Assumes nothing.
 use mathlib.Core.Path.{_≡_, refl}
 use mathlib.Core.List.{List, [], _∷_, _++_, map, flatMap}
 use Prim.Native.Nat.{ℕ, _*_}
 use lib.IntN.{pos}
+use lib.ListN.{length}
 use Rattle.lists.specs.Sum.{sum, total}
 use Rattle.model.specs.Activity.{activity}
 use Rattle.model.specs.Block.{Step, Wire}
 use Rattle.model.specs.Netlist.{DrawnGate, Netlist, block-of}
 use Rattle.model.specs.Field.{field-at}
-use Rattle.model.specs.File.{found, refused, steps-in, every, some, falls, falls-below, fault, read-field, read-gates, read-wires, decode, encode}
+use Rattle.model.specs.File.{Reading, found, refused, and-then, steps-in, every, some, falls, falls-below, fault, read-field, read-gates, read-wires, decode, encode}
 use Rattle.model.specs.Gain.{drop-of, input-activity, gain, saving}
 use Rattle.model.specs.Slack.{latest-in, source-by, start, spare}
 
@@ -60,10 +61,50 @@ pub diamond-encoded : encode (diamond 10) ≡ diamond-file 10
 unfolding encode flatMap diamond-file diamond step drawn-gate joins
 diamond-encoded = refl
 
--- "empty file: 1, 0"
-pub empty-refused : decode [] ≡ refused 1 0
-unfolding decode read-field fault field-at
-empty-refused = refl
+-- a block field of so many gates, arrival and deadline 0, with the low byte of its probability after a high byte of 1 or 0
+head : ℕ → ℕ → ℕ → List ℕ
+head n high low = 1 ∷ 0 ∷ 8 ∷ 1 ∷ n ∷ 0 ∷ 0 ∷ 0 ∷ 0 ∷ high ∷ low ∷ []
+
+-- a gate field without steps
+plain : List ℕ
+plain = 2 ∷ 0 ∷ 4 ∷ 0 ∷ 1 ∷ 0 ∷ 128 ∷ []
+
+-- files with the refusal of each, or where reading ends
+pub tried : List (List ℕ × Reading ℕ)
+tried =
+    -- "empty file: 1, 0"
+    ([], refused 1 0)
+    -- short header, tag before length, length before short body, short body
+    ∷ (1 ∷ 0 ∷ [], refused 1 0)
+    ∷ (2 ∷ 0 ∷ 9 ∷ [], refused 2 0)
+    ∷ (1 ∷ 0 ∷ 9 ∷ [], refused 3 0)
+    ∷ (1 ∷ 0 ∷ 8 ∷ 2 ∷ [], refused 1 0)
+    -- "65 get 4", no gate gets 4, "p 256 passes, 257 gets 4"
+    ∷ (head 65 0 128, refused 4 0)
+    ∷ (head 0 0 128, refused 4 0)
+    ∷ (head 1 1 1, refused 4 0)
+    ∷ (head 1 1 0 ++ plain, found 0 18)
+    -- a due gate is missing; a wire stands where a gate is due; "9 get 3"
+    ∷ (head 1 0 128, refused 1 11)
+    ∷ (head 1 0 128 ++ (3 ∷ 0 ∷ 2 ∷ 0 ∷ 0 ∷ []), refused 2 11)
+    ∷ (head 1 0 128 ++ (2 ∷ 0 ∷ 40 ∷ []), refused 3 11)
+    -- drops that do not fall get 5
+    ∷ (head 1 0 128 ++ (2 ∷ 0 ∷ 12 ∷ 0 ∷ 1 ∷ 0 ∷ 128 ∷ 0 ∷ 2 ∷ 0 ∷ 5 ∷ 0 ∷ 3 ∷ 0 ∷ 5 ∷ []), refused 5 11)
+    -- a wire to a gate that is not there, to its own gate, and twice
+    ∷ (head 2 0 128 ++ plain ++ plain ++ (3 ∷ 0 ∷ 2 ∷ 0 ∷ 2 ∷ []), refused 4 25)
+    ∷ (head 2 0 128 ++ plain ++ plain ++ (3 ∷ 0 ∷ 2 ∷ 1 ∷ 1 ∷ []), refused 6 25)
+    ∷ (head 2 0 128 ++ plain ++ plain ++ (3 ∷ 0 ∷ 2 ∷ 0 ∷ 1 ∷ 3 ∷ 0 ∷ 2 ∷ 0 ∷ 1 ∷ []), refused 6 30)
+    -- a byte behind the last wire is a short header
+    ∷ (head 2 0 128 ++ plain ++ plain ++ (3 ∷ 0 ∷ 2 ∷ 0 ∷ 1 ∷ 3 ∷ []), refused 1 30)
+    ∷ []
+
+-- what decoding comes to, with the number of wires for the netlist
+pub outcome : List ℕ → Reading ℕ
+outcome s = and-then (decode s) (λ (N : Netlist) (o : ℕ). found (length (N .wires)) o)
+
+pub tried-outcomes : map (λ (row : List ℕ × Reading ℕ). outcome (row .0)) tried ≡ map (λ (row : List ℕ × Reading ℕ). row .1) tried
+unfolding tried head plain outcome decode read-field fault field-at read-gates read-wires steps-in every some falls falls-below
+tried-outcomes = refl
 
 -- "start 7 spare 3"
 pub diamond-start : start (block-of (diamond 10)) ≡ 7
