@@ -15,7 +15,7 @@ use Rattle.model.specs.Gain.{drop-of, input-activity, gain, saving}
 use Rattle.model.specs.Slack.{latest-in, source-by, start, spare}
 
 -- the bytes of D with a deadline below 256
-pub diamond-file : ℕ → List ℕ
+unfoldable pub diamond-file : ℕ → List ℕ
 diamond-file deadline =
     (1 ∷ 0 ∷ 8 ∷ 1 ∷ 4 ∷ 0 ∷ 0 ∷ 0 ∷ deadline ∷ 0 ∷ 128 ∷ [])
     ++ (2 ∷ 0 ∷ 4 ∷ 0 ∷ 2 ∷ 0 ∷ 128 ∷ [])
@@ -27,17 +27,17 @@ diamond-file deadline =
     ++ (3 ∷ 0 ∷ 2 ∷ 1 ∷ 3 ∷ [])
     ++ (3 ∷ 0 ∷ 2 ∷ 2 ∷ 3 ∷ [])
 
-step : ℕ → ℕ → Step
+abbrev step : ℕ → ℕ → Step
 step w d = record { width = w; drop = d }
 
-drawn-gate : ℕ → List Step → DrawnGate
+abbrev drawn-gate : ℕ → List Step → DrawnGate
 drawn-gate d ss = record { delay = d; probability = 128; steps = ss }
 
-joins : ℕ → ℕ → Wire
+abbrev joins : ℕ → ℕ → Wire
 joins a b = record { source = a; target = b; delay = 0 }
 
 -- what they say
-pub diamond : ℕ → Netlist
+unfoldable pub diamond : ℕ → Netlist
 diamond deadline =
     record {
       edition = 1;
@@ -54,23 +54,23 @@ diamond deadline =
     }
 
 pub diamond-decoded : decode (diamond-file 10) ≡ found (diamond 10) 75
-unfolding decode read-field fault field-at read-gates read-wires steps-in every some falls falls-below diamond-file diamond step drawn-gate joins
+unfolding decode read-field fault field-at read-gates read-wires steps-in every some falls falls-below diamond-file diamond
 diamond-decoded = refl
 
 pub diamond-encoded : encode (diamond 10) ≡ diamond-file 10
-unfolding encode flatMap diamond-file diamond step drawn-gate joins
+unfolding encode flatMap diamond-file diamond
 diamond-encoded = refl
 
 -- a block field of so many gates, arrival and deadline 0, with the low byte of its probability after a high byte of 1 or 0
-head : ℕ → ℕ → ℕ → List ℕ
+abbrev head : ℕ → ℕ → ℕ → List ℕ
 head n high low = 1 ∷ 0 ∷ 8 ∷ 1 ∷ n ∷ 0 ∷ 0 ∷ 0 ∷ 0 ∷ high ∷ low ∷ []
 
 -- a gate field without steps
-plain : List ℕ
+abbrev plain : List ℕ
 plain = 2 ∷ 0 ∷ 4 ∷ 0 ∷ 1 ∷ 0 ∷ 128 ∷ []
 
 -- files with the refusal of each, or where reading ends
-pub tried : List (List ℕ × Reading ℕ)
+abbrev pub tried : List (List ℕ × Reading ℕ)
 tried =
     -- "empty file: 1, 0"
     ([], refused 1 0)
@@ -99,25 +99,25 @@ tried =
     ∷ []
 
 -- what decoding comes to, with the number of wires for the netlist
-pub outcome : List ℕ → Reading ℕ
+abbrev pub outcome : List ℕ → Reading ℕ
 outcome s = and-then (decode s) (λ (N : Netlist) (o : ℕ). found (length (N .wires)) o)
 
 pub tried-outcomes : map (λ (row : List ℕ × Reading ℕ). outcome (row .0)) tried ≡ map (λ (row : List ℕ × Reading ℕ). row .1) tried
-unfolding tried head plain outcome decode read-field fault field-at read-gates read-wires steps-in every some falls falls-below
+unfolding decode read-field fault field-at read-gates read-wires steps-in every some falls falls-below
 tried-outcomes = refl
 
 -- "start 7 spare 3"
 pub diamond-start : start (block-of (diamond 10)) ≡ 7
-unfolding start source-by latest-in diamond step drawn-gate joins
+unfolding start source-by latest-in diamond
 diamond-start = refl
 
 pub diamond-spare : spare (block-of (diamond 10)) ≡ pos 3
-unfolding spare start source-by latest-in diamond step drawn-gate joins
+unfolding spare start source-by latest-in diamond
 diamond-spare = refl
 
 -- deadline 10: 0 0 2 3 saves 44U; 14: 0 2 4 5 saves 86U = 2,818,048; 7: 0 0 2 0 saves 8U; judging 0 0 0 3: 36U
 pub diamond-savings :
     map (saving (block-of (diamond 10))) ((0 ∷ 0 ∷ 2 ∷ 3 ∷ []) ∷ (0 ∷ 2 ∷ 4 ∷ 5 ∷ []) ∷ (0 ∷ 0 ∷ 2 ∷ 0 ∷ []) ∷ (0 ∷ 0 ∷ 0 ∷ 3 ∷ []) ∷ [])
     ≡ 44 * 32768 ∷ 2818048 ∷ 8 * 32768 ∷ 36 * 32768 ∷ []
-unfolding saving sum total gain input-activity drop-of activity diamond step drawn-gate joins
+unfolding saving sum total gain input-activity drop-of activity diamond
 diamond-savings = refl
