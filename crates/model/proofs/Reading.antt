@@ -185,8 +185,8 @@ ended-found n s room seen o {ws} {p} h e =
     let b : o ≡ p = cc in
     subst₂ (λ (l : List Wire) (q : ℕ). WiresFound n s room seen o l q) a b (ended h)
 
-next-found : (n : ℕ) (s : List ℕ) (room : ℕ) (seen : List Wire) (o : ℕ) {w : Wire} {q : ℕ} {vs ws : List Wire} {p : ℕ} → o < length s → read-field (wire n seen) s o ≡ found w q → WiresFound n s room (w ∷ seen) q vs p → ws ≡ w ∷ vs → WiresFound n s (suc room) seen o ws p
-next-found n s room seen o {p = p} h e f m = subst (λ (l : List Wire). WiresFound n s (suc room) seen o l p) (sym m) (next h e f)
+next-found : (n : ℕ) (s : List ℕ) (room : ℕ) (seen : List Wire) (o : ℕ) (vs : List Wire) {w : Wire} {q : ℕ} {ws : List Wire} {p : ℕ} → o < length s → read-field (wire n seen) s o ≡ found w q → WiresFound n s room (w ∷ seen) q vs p → ws ≡ w ∷ vs → WiresFound n s (suc room) seen o ws p
+next-found n s room seen o vs {p = p} h e f m = subst (λ (l : List Wire). WiresFound n s (suc room) seen o l p) (sym m) (next h e f)
 
 pub wires-found : (n : ℕ) (s : List ℕ) (room : ℕ) (seen : List Wire) (o : ℕ) {ws : List Wire} {p : ℕ} → read-wires room n seen s o ≡ found ws p → WiresFound n s room seen o ws p
 wires-found n s zero seen o {ws} {p} e =
@@ -203,7 +203,7 @@ wires-found n s (suc room) seen o {ws} {p} e =
     let h : o < length s = leb-false (length s) o t in
     let x = then-found (read-field (wire n seen) s o) (λ (w : Wire) (q : ℕ). and-then (read-wires room n (w ∷ seen) s q) (λ (vs : List Wire) (r : ℕ). found (w ∷ vs) r)) (sym (read-wires-next n seen s o room h) ∙ e) in
     let y = made-found (read-wires room n (x .value ∷ seen) s (x .offset)) (λ (vs : List Wire). x .value ∷ vs) (x .went-on) in
-    next-found n s room seen o h (x .was-found) (wires-found n s room (x .value ∷ seen) (x .offset) (y .was-found)) (y .made))
+    next-found n s room seen o (y .value) h (x .was-found) (wires-found n s room (x .value ∷ seen) (x .offset) (y .was-found)) (y .made))
 
 -- wires found end with the bytes
 pub wires-found-end : {n : ℕ} {s : List ℕ} {room : ℕ} {seen : List Wire} {o : ℕ} {ws : List Wire} {p : ℕ} → WiresFound n s room seen o ws p → o ≤ length s → p ≡ length s
