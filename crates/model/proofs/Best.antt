@@ -1,16 +1,13 @@
 -- A best list is unique, and so is a best saving.
 -- Assumes nothing.
-use mathlib.Core.Path.{_≡_, sym, ap, subst}
-use mathlib.Core.Logic.{_≢_, _⊎_, inl, inr}
+use mathlib.Core.Path.{_≡_, sym}
+use mathlib.Core.Logic.{_⊎_, inl, inr}
 use mathlib.Core.List.{List, List-discrete}
-use Prim.Native.Nat.{ℕ, _<_, _≤_}
+use Prim.Native.Nat.{ℕ, _<_}
 use native.Mathlib.Decide.{ℕ-discrete}
 use native.Mathlib.Nat.{le-antisymm}
 use native.Mathlib.Omega.{arith}
 use Rattle.model.specs.Block.{Block}
-use Rattle.model.specs.Gain.{saving}
-use Rattle.model.specs.InTime.{InTime}
-use Rattle.model.specs.Ties.{Before}
 use Rattle.model.specs.Best.{BestOf, Best, BestSaving}
 use Rattle.model.proofs.Ties.{before-asym}
 

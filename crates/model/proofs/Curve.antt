@@ -1,15 +1,14 @@
 -- Counting ticks off a curve, and that a curve is unique: two falling lists of pairs that earn the same at every count of ticks are equal, since the first tick shows the first gain, and the first tick that earns less shows the first width.
 -- Assumes nothing.
-use mathlib.Core.Path.{_≡_, refl, sym, _∙_, ap}
+use mathlib.Core.Path.{_≡_, refl, sym, _∙_}
 use mathlib.Core.Logic.{_⊎_, inl, inr}
 use mathlib.Core.List.{List, [], _∷_}
-use Prim.Native.Nat.{ℕ, zero, suc, _+_, _*_, _-_, _≤_, _<_, min}
+use Prim.Native.Nat.{ℕ, _+_, _*_, _-_, _≤_, _<_, min}
 use native.Mathlib.Nat.{le-antisymm, zero-mul, one-mul, add-mul, add-left-cancel}
 use native.Mathlib.Omega.{arith}
 use Rattle.lists.proofs.Compare.{compared}
 use Rattle.model.specs.Block.{Block}
 use Rattle.model.specs.InTime.{IsStart}
-use Rattle.model.specs.Best.{BestSaving}
 use Rattle.model.specs.Curve.{Pair, first-gain, Falling, count-off, IsCurve}
 use Rattle.model.proofs.Best.{best-saving-unique}
 

@@ -1,3 +1,4 @@
+pub mod Cases
 pub mod Ties
 pub mod Best
 pub mod Curve
@@ -16,7 +17,6 @@ pub mod Reading
 pub mod Bodies
 pub mod File
 pub mod Place
-pub mod Tried
 pub mod Stored
 pub mod Limited
 pub mod Encoded

@@ -1,9 +1,9 @@
 -- Source delay, required time, slack and start are what the paths say: attained by a path, exceeded by none. And a block is late exactly when no list is in time.
 -- Assumes of the block: no gate is at fault with its wires, and the gates can be numbered along the wires (crate network finds such a numbering for every block without loops).
-use mathlib.Core.Path.{_≡_, refl, sym, _∙_, ap}
+use mathlib.Core.Path.{_≡_, sym, ap}
 use mathlib.Core.Logic.{_↔_, _⊎_, inl, inr, ⊎-elim}
 use mathlib.Core.List.{List, [], _∷_, List·Memᴰ·head, List·Memᴰ·tail, List·Memᴰ·cases-cons, List·Memᴰ·not-nil}
-use Prim.Native.Nat.{ℕ, zero, suc, _+_, _-_, _≤_, _<_}
+use Prim.Native.Nat.{ℕ, _+_, _-_, _≤_, _<_}
 use native.Mathlib.Decide.{ℕ-discrete}
 use native.Mathlib.Nat.{le-add-right, not-suc-le-zero}
 use native.Mathlib.Omega.{arith}
@@ -14,9 +14,9 @@ use lib.Signed.{ltZ, _<ℤ_}
 use Rattle.lists.proofs.Compare.{le-or-lt}
 use Rattle.model.specs.Block.{Wire, Block, gate-count, first, last, Stands, Joined}
 use Rattle.model.specs.Path.{Path, stay, go, Longest}
-use Rattle.model.specs.InTime.{no-increase, Sizing, drawn, slowed, InTime, IsStart}
+use Rattle.model.specs.InTime.{no-increase, drawn, slowed, InTime, IsStart}
 use Rattle.model.specs.Slack.{latest-in, source-by, source-delay, required-time, slack, start, spare}
-use Rattle.model.specs.Refusal.{EndFault, none-in, none-out, SoundNetwork}
+use Rattle.model.specs.Refusal.{none-in, none-out, SoundNetwork}
 use Rattle.model.proofs.Signed.{minus-minus, difference-pos, difference-neg}
 use Rattle.model.proofs.Source.{Along, Entered, source-equation, source-greatest, source-attained}
 use Rattle.model.proofs.Turned.{turn, stands-turned, stands-unturned, path-turned, along-turned, required-turned}

@@ -5,7 +5,7 @@ use Prim.Native.Nat.{ℕ, _+_, _*_}
 use lib.ListN.{getD}
 use Rattle.lists.specs.Over.{build}
 use Rattle.model.specs.Limits.{max-steps}
-use Rattle.model.specs.Block.{Step, Gate, Wire, Block}
+use Rattle.model.specs.Block.{Step, Gate, Wire}
 
 -- the place of step j of gate g
 abbrev pub step-place : ℕ → ℕ → ℕ

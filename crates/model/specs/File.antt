@@ -1,6 +1,5 @@
 -- The block file (document 01, "The block file", "Refusals and their places"): `decode` from bytes to a netlist or a refusal with its place, and `encode`.
 -- Lengths and ranges of each tag stand here and nowhere else.
-use mathlib.Core.Path.{_≡_}
 use mathlib.Core.List.{List, [], _∷_, _++_, flatMap}
 use mathlib.Core.Bool.{Bool, true, false, cond, not, _&&_, _||_}
 use Prim.Native.Nat.{ℕ, zero, suc, _+_, _*_, _%_, _≤_}

@@ -4,7 +4,7 @@ use mathlib.Core.Logic.{_≢_}
 use mathlib.Core.List.{List}
 use Prim.Native.Nat.{ℕ, _<_}
 use Rattle.lists.specs.Search.{Lowest}
-use Rattle.model.specs.Block.{Wire, Block, gate-count, first, last, Joined}
+use Rattle.model.specs.Block.{Block, gate-count, first, last, Joined}
 use Rattle.model.specs.Path.{Reaches}
 use Rattle.model.specs.File.{found, refused, read-block}
 

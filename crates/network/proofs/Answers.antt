@@ -1,10 +1,9 @@
 -- From the wires of the arrays to the block that has them: what the functions find is what the answers say.
 -- Assumes nothing.
-use mathlib.Core.Path.{_≡_}
 use mathlib.Core.Bool.{true, false}
 use mathlib.Core.List.{List}
-use Prim.Native.Nat.{ℕ, _<_}
-use Rattle.model.specs.Block.{Block, Joined}
+use Prim.Native.Nat.{ℕ}
+use Rattle.model.specs.Block.{Block}
 use Rattle.model.specs.Refusal.{OnLoop}
 use Rattle.network.specs.Wires.{Lent, Wired, InArrays}
 use Rattle.network.specs.Order.{Order}

@@ -2,18 +2,17 @@
 -- Assumes nothing.
 use mathlib.Core.Path.{_≡_, refl, sym, ap}
 use mathlib.Core.Logic.{_↔_}
-use mathlib.Core.Bool.{true, false}
+use mathlib.Core.Bool.{true}
 use mathlib.Core.List.{List}
 use Prim.Native.Nat.{ℕ, _<_}
 use native.Mathlib.Nat.{lt-irrefl}
 use native.Mathlib.Omega.{arith}
 use native.Mathlib.Decide.{decLt}
 use Rattle.lists.specs.Search.{Lowest}
-use Rattle.model.specs.Block.{Block, gate-count, Joined}
+use Rattle.model.specs.Block.{Block}
 use Rattle.model.specs.Refusal.{OnLoop, EndFault, SoundNetwork}
 use Rattle.network.specs.declared.Network.{Network}
 use Rattle.network.specs.declared.Network.the-variants.{Sound, Loop, Ends}
-use Rattle.network.specs.declared.Faults.{Faults}
 use Rattle.network.specs.declared.Faults.the-variants.{Nowhere, At}
 use Rattle.network.specs.Wires.{Lent, InArrays}
 use Rattle.network.specs.Marks.{First}

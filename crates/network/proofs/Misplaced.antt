@@ -10,10 +10,10 @@ use native.Mathlib.Decide.{ℕ-discrete}
 use lib.Dec.{eqb}
 use lib.ListN.{getD}
 use borrow.Author.Tests.{eqb-true, eqb-false, not-true, not-false}
-use Rattle.lists.specs.Search.{Lowest, Says}
-use Rattle.model.specs.Block.{Block, gate-count, first, last, Joined}
+use Rattle.lists.specs.Search.{Says}
+use Rattle.model.specs.Block.{Block, Joined}
 use Rattle.model.specs.Refusal.{EndFault, into-first, none-in, out-of-last, none-out}
-use Rattle.network.specs.Wires.{Lent, Wired, InArrays, EndsAt}
+use Rattle.network.specs.Wires.{Lent, InArrays, EndsAt}
 use Rattle.network.specs.Marks.{Marks, Among, First}
 use Rattle.network.specs.Misplaced.{Misplaced, too-many, missing, Faulty}
 use Rattle.network.specs.declared.Faults.the-variants.{Nowhere, At}

@@ -12,8 +12,8 @@ use lib.Seq.{getD-set-same, getD-set-other}
 use Rattle.network.specs.Marks.{Marks}
 use Rattle.network.specs.Order.{Order, Placed, Waits, Visit, placed-before, waits, placed-now, Advanced}
 use Rattle.network.proofs.Reach.{Reach}
-use Rattle.network.proofs.Loop.{Fed, loop-in}
-use Rattle.network.proofs.Pigeonhole.{Sent, pigeonhole, room-left}
+use Rattle.network.proofs.Loop.{loop-in}
+use Rattle.network.proofs.Pigeonhole.{pigeonhole, room-left}
 
 -- The state of a round that began with `count₀` gates placed as `place₀` says, once the gates below g are visited.
 pub record Round (E : ℕ → ℕ → Type 0) (n : ℕ) (waiting place₀ : List ℕ) (count₀ g : ℕ) (place order : List ℕ) (count : ℕ) : Type 0 where

@@ -1,6 +1,6 @@
 -- The wires of the arrays, one after another, and as the wires of a block.
 -- Assumes nothing.
-use mathlib.Core.Path.{_≡_, refl, sym, _∙_, ap, subst}
+use mathlib.Core.Path.{_≡_, refl, sym, _∙_, ap}
 use mathlib.Core.Logic.{_⊎_, inl, inr, ⊎-elim, ⊎-map}
 use mathlib.Core.List.{List}
 use Prim.Native.Nat.{ℕ, _+_, _≤_, _<_}
@@ -10,7 +10,7 @@ use lib.ListN.{length, getD, set}
 use Rattle.lists.proofs.Over.{mem-build, build-mem}
 use Rattle.model.specs.Limits.{max-gates}
 use Rattle.model.specs.Block.{Wire, Block, Joined}
-use Rattle.model.specs.Arrays.{wire-at, wires-in}
+use Rattle.model.specs.Arrays.{wire-at}
 use Rattle.model.specs.Refusal.{OnLoop}
 use Rattle.network.specs.Wires.{Lent, Wired, InArrays}
 use Rattle.network.specs.Marks.{Marks}

@@ -16,7 +16,7 @@ use Rattle.model.specs.Arrays.{wire-at, wires-in}
 use Rattle.model.proofs.Source.{Along, Came, at-base, by-wire, latest-same, latest-attained, source-equation}
 use Rattle.network.specs.Wires.{Lent, Wired}
 use Rattle.network.specs.Order.{Order}
-use Rattle.timing.specs.Times.{most-delay, time-bound, Delays, Walkable, Ready, LatestTimes}
+use Rattle.timing.specs.Times.{most-delay, time-bound, Walkable, Ready, LatestTimes}
 
 -- a wire of the arrays' list stands at some place of the arrays
 pub wired : (m : ℕ) (sources targets delays : List ℕ) (a b w : ℕ) → Stands (wires-in m sources targets delays) a b w → Wired m sources targets a b

@@ -2,22 +2,21 @@
 -- Assumes nothing.
 use mathlib.Core.Path.{_≡_, sym, _∙_, ap}
 use mathlib.Core.List.{List}
-use Prim.Native.Nat.{ℕ, suc, _+_, _-_, _≤_, _<_}
+use Prim.Native.Nat.{ℕ, _+_, _-_, _<_}
 use native.Mathlib.Omega.{arith}
 use lib.IntN.{ℤ, pos, _-ℤ_}
-use lib.ListN.{length, getD, length-replicate}
+use lib.ListN.{length, getD}
 use Rattle.lists.specs.Over.{build, over}
 use Rattle.lists.proofs.Over.{build-same}
 use Rattle.model.specs.Limits.{max-gates}
 use Rattle.model.specs.InTime.{no-increase}
-use Rattle.model.specs.Block.{Wire}
 use Rattle.model.specs.Slack.{latest-in, source-by, required-by}
 use Rattle.model.specs.Arrays.{wires-in}
 use Rattle.model.proofs.Signed.{minus-minus}
 use Rattle.model.proofs.Slack.{zeros}
 use Rattle.model.proofs.Source.{Along, source-equation}
-use Rattle.model.proofs.Turned.{turn, required-turned}
-use Rattle.timing.specs.Times.{time-bound, Timeable, LatestTimes}
+use Rattle.model.proofs.Turned.{required-turned}
+use Rattle.timing.specs.Times.{Timeable, LatestTimes}
 use Rattle.timing.specs.Slacks.{Reversed, Slackable, Subtractable, left-at, slack-in}
 use Rattle.timing.proofs.Found.{along, source-bounded}
 use Rattle.timing.proofs.Reversal.{order-reversed, lent-turned, turn-arrays}

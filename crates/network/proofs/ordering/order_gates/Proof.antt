@@ -2,11 +2,11 @@
 -- Assumes nothing.
 use borrow.Author.Needs.{needs}
 use mathlib.Core.Path.{_≡_, refl, _∙_}
-use Prim.Native.Nat.{ℕ, _≤_, _-_}
+use Prim.Native.Nat.{ℕ, _-_}
 use native.Mathlib.Omega.{arith}
 use lib.ListN.{length, length-replicate, getD-replicate}
 use Rattle.network.specs.Wires.{Wired}
-use Rattle.network.specs.Order.{Placed, Advanced}
+use Rattle.network.specs.Order.{Placed}
 use Rattle.network.proofs.Wires.{wired-gates}
 use Rattle.network.proofs.Rounds.{none-placed, stuck-loop, whole-order}
 use Rattle.network.proofs.Answers.{order-found, loop-found}

@@ -1,10 +1,9 @@
 -- `network::ordering::place_round` meets its contract: the marks of the waiting gates are those that the placing wants.
 -- Assumes nothing.
 use borrow.Author.Needs.{needs}
-use mathlib.Core.Path.{_≡_}
 use Prim.Native.Nat.{ℕ}
 use native.Mathlib.Omega.{arith}
-use lib.ListN.{length, getD-replicate, length-replicate}
+use lib.ListN.{getD-replicate, length-replicate}
 use Rattle.network.proofs.ordering.place_round.Statement.{statement}
 use Rattle.network.proofs.ordering.place_round.Tie as tie
 

@@ -1,7 +1,6 @@
 -- `timing::slack::write_slacks` meets its contract: the times from the first gate on and back from the last leave the slacks. Assumes nothing.
 use borrow.Author.Needs.{needs}
 use mathlib.Core.Path.{_∙_}
-use native.Mathlib.Omega.{arith}
 use Rattle.timing.proofs.Slacks.{forward-able, back-able, subtractable, slacks-are}
 use Rattle.timing.proofs.slack.write_slacks.Statement.{statement}
 use Rattle.timing.proofs.slack.write_slacks.Tie as tie

@@ -1,6 +1,5 @@
 -- `timing::times::times_from` meets its contract: fresh chains are made, and the times found by them. Assumes nothing.
 use borrow.Author.Needs.{needs}
-use native.Mathlib.Omega.{arith}
 use Rattle.timing.proofs.Fresh.{fresh-chains, once-chained}
 use Rattle.timing.proofs.times.times_from.Statement.{statement}
 use Rattle.timing.proofs.times.times_from.Tie as tie

@@ -5,6 +5,7 @@ use mathlib.Core.List.{List, [], _∷_, _++_, map, flatMap}
 use Prim.Native.Nat.{ℕ, _*_}
 use lib.IntN.{pos}
 use lib.ListN.{length}
+use Rattle.lists.specs.Over.{build}
 use Rattle.lists.specs.Sum.{sum, total}
 use Rattle.model.specs.Activity.{activity}
 use Rattle.model.specs.Block.{Step, Wire}
@@ -12,7 +13,8 @@ use Rattle.model.specs.Netlist.{DrawnGate, Netlist, block-of}
 use Rattle.model.specs.Field.{field-at}
 use Rattle.model.specs.File.{Reading, found, refused, and-then, steps-in, every, some, falls, falls-below, fault, read-field, read-gates, read-wires, decode, encode}
 use Rattle.model.specs.Gain.{drop-of, input-activity, gain, saving}
-use Rattle.model.specs.Slack.{latest-in, source-by, start, spare}
+use Rattle.model.specs.Curve.{Pair, count-off}
+use Rattle.model.specs.Slack.{latest-in, source-by, source-delay, least-out, required-by, required-time, slack, start, spare}
 
 -- the bytes of D with a deadline below 256
 unfoldable pub diamond-file : ℕ → List ℕ
@@ -32,6 +34,9 @@ step w d = record { width = w; drop = d }
 
 abbrev drawn-gate : ℕ → List Step → DrawnGate
 drawn-gate d ss = record { delay = d; probability = 128; steps = ss }
+
+abbrev pair : ℕ → ℕ → Pair
+pair w g = record { width = w; gain = g }
 
 abbrev joins : ℕ → ℕ → Wire
 joins a b = record { source = a; target = b; delay = 0 }
@@ -114,6 +119,17 @@ diamond-start = refl
 pub diamond-spare : spare (block-of (diamond 10)) ≡ pos 3
 unfolding spare start source-by latest-in diamond
 diamond-spare = refl
+
+-- the last column of the printout: slacks before increases
+pub diamond-slacks : build 4 (slack (block-of (diamond 10))) ≡ pos 3 ∷ pos 3 ∷ pos 5 ∷ pos 3 ∷ []
+unfolding build slack required-time required-by least-out source-delay source-by latest-in diamond
+diamond-slacks = refl
+
+-- 001's chain of three gates ("pairs (3,28),(9,26),(7,24),(4,23),(3,21)"): what the first 12 and 26 ticks of the curve earn, and that ticks beyond its end earn 0
+pub chain-counted :
+    map (count-off (pair 3 28 ∷ pair 9 26 ∷ pair 7 24 ∷ pair 4 23 ∷ pair 3 21 ∷ [])) (12 ∷ 26 ∷ 27 ∷ []) ≡ 318 ∷ 641 ∷ 641 ∷ []
+unfolding count-off
+chain-counted = refl
 
 -- deadline 10: 0 0 2 3 saves 44U; 14: 0 2 4 5 saves 86U = 2,818,048; 7: 0 0 2 0 saves 8U; judging 0 0 0 3: 36U
 pub diamond-savings :
