@@ -1,0 +1,1 @@
+// Definitions and laws: why the ticks handed out to a series-parallel block are the best. No code.

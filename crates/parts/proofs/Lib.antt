@@ -1,0 +1,17 @@
+pub mod Diamond
+pub mod Gates
+pub mod Clearing
+pub mod State
+pub mod Steps
+pub mod Start
+pub mod Verdict
+pub mod Nodes
+pub mod Search
+pub mod Reduce
+pub mod Ascending
+pub mod Examples
+pub mod MarkLaws
+pub mod SoughtLaws
+pub mod Held
+pub mod TakeLaws
+pub mod Rounds

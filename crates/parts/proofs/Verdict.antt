@@ -1,0 +1,136 @@
+-- Both directions in one theorem (`verdict`): when no gate but the first and the last can go, exactly one slot is live if and only if the block is series-parallel; and then that slot's part is the whole block (`whole`). A lone gate is series-parallel as it stands (`lone-gate`).
+-- Soundness: the part of the one slot has all wires, so no wire enters its source and none leaves its target: these are the first gate and the last. Completeness: every order of takings has taken all gates inside the whole part, so each slot leads from its first gate to its last, and no two slots join the same gates. Assumes nothing.
+use mathlib.Core.Path.{_≡_, refl, sym, _∙_, subst, subst₂}
+use mathlib.Core.Logic.{_≢_, _⊎_, inl, inr, _↔_, ⊎-elim}
+use mathlib.Core.List.{List, [], _∷_, List·Memᴰ, List·Memᴰ·head}
+use Prim.Native.Nat.{ℕ, _<_}
+use native.Mathlib.Decide.{ℕ-discrete}
+use native.Mathlib.Omega.{arith}
+use Rattle.model.specs.Block.{Wire, Block, gate-count, first, last, Joined}
+use Rattle.model.specs.Part.{Shape, Inside, HasGate, HasWire, Part, Whole, SeriesParallel, lone, built}
+use Rattle.model.specs.Path.{step}
+use Rattle.parts.specs.Reduction.{Thru, direct, through, Only, Stuck}
+use Rattle.parts.specs.Slots.{Slot, Live, Carries, Finished}
+use Rattle.parts.specs.Network.{Network}
+use Rattle.parts.proofs.Gates.{wire-ends, wire-gates, enters-none, leaves-none, wire-out, wire-in}
+use Rattle.parts.proofs.Clearing.{inside-taken}
+use Rattle.parts.specs.Invariant.{Fits, Reducing}
+use Rattle.parts.proofs.State.{slots-removable}
+
+-- a wire left begins with a wire and ends with a wire
+thru-wires : {E : ℕ → ℕ → Type 0} {R : List ℕ} {a b : ℕ} → Thru E R a b → ((y : ℕ) × E a y) × ((x : ℕ) × E x b)
+thru-wires {a = a} {b = b} (direct e) = ((b, e), (a, e))
+thru-wires (through {c = c} e m t) = ((c, e), thru-wires t .1)
+
+module _ {B : Block} {S : ℕ → Slot} (n : Network B) (r : Reducing (Joined (B .wires)) S) where
+  -- no gate at all can go: the first and the last lack a wire
+  pub finished-stuck : Finished S (first B) (last B) → Stuck (Joined (B .wires)) (r .taken)
+  finished-stuck f m k =
+      let (o, p) = slots-removable (r .reduced) (r .single) (k .left) .1 k in
+      f m (λ e. let (x, w) = thru-wires (k .before .holds .1) .1 in n .first-none x (subst (Joined (B .wires) x) e w))
+      (λ e. let (y, w) = thru-wires (k .after .holds .1) .0 in n .last-none y (subst (λ g. Joined (B .wires) g y) e w)) o p
+
+  -- Soundness: the part of the only slot is the whole block.
+  pub whole : (o : Only (λ i. Live (S i))) → Whole B (S (o .value) .shape)
+  whole o =
+      record {
+        part = subst₂ (λ x y. Part x y P) is-first is-last (fit .part);
+        wires = all-wires;
+        gates = λ g h. all-gates g h (ℕ-discrete g (first B));
+      }
+    where
+      P : Shape
+      P = S (o .value) .shape
+
+      a : ℕ
+      a = S (o .value) .source
+
+      b : ℕ
+      b = S (o .value) .target
+
+      fit : Fits (Joined (B .wires)) (r .taken) (S (o .value))
+      fit = r .reduced .fits (o .value) (o .holds)
+
+      in-part : (x y : ℕ) → Joined (B .wires) x y → HasWire P a b x y
+      in-part x y w = let (i, l, h) = r .reduced .covered x y w in subst (λ k. Carries (S k) x y) (o .alone i l) h
+
+      is-first : a ≡ first B
+      is-first = go (ℕ-discrete a (first B))
+        where
+          go : Dec (a ≡ first B) → a ≡ first B
+          go (yes e) = e
+          go (no d) =
+              let (y, h) = wire-out P a b in
+              let (x, w) = n .wire-into a (n .below a y (fit .wires a y h) .0) d in
+              absurd (enters-none P a b x a (fit .part) (in-part x a w) refl)
+
+      is-last : b ≡ last B
+      is-last = go (ℕ-discrete b (last B))
+        where
+          go : Dec (b ≡ last B) → b ≡ last B
+          go (yes e) = e
+          go (no d) =
+              let (x, h) = wire-in P a b in
+              let (y, w) = n .wire-from b (n .below x b (fit .wires x b h) .1) d in
+              absurd (leaves-none P a b b y (fit .part) (in-part b y w) refl)
+
+      all-wires : (x y : ℕ) → Joined (B .wires) x y ↔ HasWire P (first B) (last B) x y
+      all-wires x y = subst₂ (λ c d. Joined (B .wires) x y ↔ HasWire P c d x y) is-first is-last (in-part x y, fit .wires x y)
+
+      all-gates : (g : ℕ) → g < gate-count B → Dec (g ≡ first B) → HasGate P (first B) (last B) g
+      all-gates g h (yes e) = inl e
+      all-gates g h (no d) = let (x, w) = n .wire-into g h d in wire-gates P (first B) (last B) x g (all-wires x g .0 w) .1
+
+  -- Completeness: if the whole block is a part, only one slot is live.
+  only-slot : Finished S (first B) (last B) → (P : Shape) → Whole B P → Only (λ i. Live (S i))
+  only-slot f P w =
+      let (y, h) = wire-out P (first B) (last B) in
+      let (i, l, k) = r .reduced .covered (first B) y (w .wires (first B) y .1 h) in
+      record { value = i; holds = l; alone = λ j m. r .single j i m l (from-first j m ∙ sym (from-first i l)) (to-last j m ∙ sym (to-last i l)) }
+    where
+      gone : (g : ℕ) → Inside P g → List·Memᴰ g (r .taken)
+      gone = inside-taken P (first B) (last B) (w .part) (w .wires) (r .order) (finished-stuck f)
+
+      from-first : (j : ℕ) → Live (S j) → S j .source ≡ first B
+      from-first j l =
+          let t = r .reduced .fits j l in
+          let (y, h) = wire-out (S j .shape) (S j .source) (S j .target) in
+          ⊎-elim (λ e. e) (λ k. absurd (t .source-left (gone _ k)))
+          (wire-ends P (first B) (last B) (S j .source) y (w .wires (S j .source) y .0 (t .wires (S j .source) y h)) .0)
+
+      to-last : (j : ℕ) → Live (S j) → S j .target ≡ last B
+      to-last j l =
+          let t = r .reduced .fits j l in
+          let (x, h) = wire-in (S j .shape) (S j .source) (S j .target) in
+          ⊎-elim (λ e. e) (λ k. absurd (t .target-left (gone _ k)))
+          (wire-ends P (first B) (last B) x (S j .target) (w .wires x (S j .target) .0 (t .wires x (S j .target) h)) .1)
+
+  -- "One slot left" exactly when the block is series-parallel.
+  pub verdict : gate-count B ≢ 1 → Finished S (first B) (last B) → Only (λ i. Live (S i)) ↔ SeriesParallel B
+  verdict d f = (λ o. built (S (o .value) .shape) (whole o), back)
+    where
+      back : SeriesParallel B → Only (λ i. Live (S i))
+      back (lone e w) = absurd (d e)
+      back (built P w) = only-slot f P w
+
+-- A network of one gate has no wire, and is series-parallel.
+pub lone-gate : {B : Block} → Network B → gate-count B ≡ 1 → SeriesParallel B
+lone-gate {B} n e = lone e (none (B .wires) refl)
+  where
+    none : (ws : List Wire) → B .wires ≡ ws → B .wires ≡ []
+    none [] h = h
+    none (w ∷ ws) h = absurd (n .acyclic (w .source) (step (subst (Joined (B .wires) (w .source)) same joined)))
+      where
+        joined : Joined (B .wires) (w .source) (w .target)
+        joined = (w .delay, subst (List·Memᴰ w) (sym h) (List·Memᴰ·head refl))
+
+        same : w .target ≡ w .source
+        same = let b = n .below (w .source) (w .target) joined in omega (arith, e, b)
+
+-- The same with the lone gate: the reduction's answer, exactly when series-parallel.
+pub answer : {B : Block} {S : ℕ → Slot} → Network B → Reducing (Joined (B .wires)) S → Finished S (first B) (last B) → ((gate-count B ≡ 1) ⊎ Only (λ i. Live (S i))) ↔ SeriesParallel B
+answer {B} {S} n r f = (⊎-elim (lone-gate n) (λ o. built (S (o .value) .shape) (whole n r o)), λ p. go p (ℕ-discrete (gate-count B) 1))
+  where
+    go : SeriesParallel B → Dec (gate-count B ≡ 1) → (gate-count B ≡ 1) ⊎ Only (λ i. Live (S i))
+    go p (yes e) = inl e
+    go p (no d) = inr (verdict n r d f .1 p)

@@ -1,0 +1,34 @@
+-- What holds of the arrays while gates go, and what a round of the reduction does.
+use mathlib.Core.Path.{_≡_}
+use mathlib.Core.Logic.{_≢_}
+use Prim.Native.Nat.{ℕ, _+_, _≤_, _<_}
+use lib.ListN.{getD}
+use Rattle.model.specs.Block.{Block, gate-count, Joined}
+use Rattle.parts.specs.Slots.{live-count}
+use Rattle.parts.specs.Invariant.{Reducing}
+use Rattle.parts.specs.Network.{Network}
+use Rattle.parts.specs.Arrays.{Arrays, held, Formed, Room, Chosen, Went}
+
+-- With n gates, k slots and c nodes, the arrays hold a moment of the reduction of N.
+pub record Going (N : Block) (n k c : ℕ) (A : Arrays) : Type 0 where
+  pub gates : gate-count N ≡ n
+  pub reducing : Reducing (Joined (N .wires)) (held k A)
+  pub formed : Formed (N .wires) k c A
+
+-- the same of some network
+pub record Sound (n k c : ℕ) (A : Arrays) : Type 0 where
+  pub block : Block
+  pub network : Network block
+  pub going : Going block n k c A
+
+-- The arrays have room for every node that may come, and their gates are below n. Each step adds no more nodes than slots die.
+pub record Ready (n k c : ℕ) (A : Arrays) : Type 0 where
+  pub room : Room k (k + k) A
+  pub from-below : (i : ℕ) → i < k → getD (A .froms) i 0 < n
+  pub to-below : (i : ℕ) → i < k → getD (A .tos) i 0 < n
+  pub budget : c + live-count k (held k A) ≤ k + k
+
+-- A round: a gate other than a and b goes; or none can, and nothing changes.
+pub data Round (n k a b c : ℕ) (A B : Arrays) (r : ℕ) : Type 0 where
+  rests : ((m i j : ℕ) → m < n → m ≢ a → m ≢ b → Chosen k A m i j → ⊥) → B ≡ A → r ≡ c → Round n k a b c A B r
+  goes : (m i j : ℕ) → Chosen k A m i j → Went k c m i j A B r → c < r → Round n k a b c A B r

@@ -1,0 +1,11 @@
+pub mod Reduction
+pub mod Slots
+pub mod Invariant
+pub mod Network
+pub mod Nodes
+pub mod Reduce
+pub mod Ascending
+pub mod Marks
+pub mod Sought
+pub mod Arrays
+pub mod Going

@@ -1,0 +1,25 @@
+-- What the searches of the reduction look for, and what they promise.
+use mathlib.Core.Path.{_≡_}
+use mathlib.Core.Logic.{_≢_}
+use mathlib.Core.List.{List}
+use Prim.Native.Nat.{ℕ, _≤_, _<_}
+use lib.ListN.{getD}
+
+-- r is the least number below n with the property, or n where there is none
+pub record Sought (P : ℕ → Type 0) (n r : ℕ) : Type 0 where
+  pub within : r ≤ n
+  pub none-below : (q : ℕ) → q < r → ¬ (P q)
+  pub holds : r < n → P r
+
+-- By the marks, gate m can go, which is neither a nor b: one slot leads to it and one from it.
+pub record CanGo (ins outs : List ℕ) (a b m : ℕ) : Type 0 where
+  pub not-first : m ≢ a
+  pub not-last : m ≢ b
+  pub one-in : 2 ≤ getD ins m 0
+  pub one-out : 2 ≤ getD outs m 0
+
+-- slot i is live and leads from a to b
+pub record Leads (lives froms tos : List ℕ) (a b i : ℕ) : Type 0 where
+  pub live : getD lives i 0 ≡ 1
+  pub from : getD froms i 0 ≡ a
+  pub to : getD tos i 0 ≡ b
