@@ -10,18 +10,19 @@ use native.Mathlib.Decide.{ℕ-discrete, decLt, decLe}
 use lib.ListN.{length, getD, set}
 use lib.Seq.{getD-set-same, getD-set-other}
 use Rattle.network.specs.Marks.{Marks}
-use Rattle.network.specs.Order.{Order, Placed, Waits, Visit, placed-before, waits, placed-now, Advanced}
+use Rattle.network.specs.Order.{Order, Placed, Waits, Visit, placed-before, waits, placed-now, SameBeyond, Advanced}
 use Rattle.network.proofs.Reach.{Reach}
 use Rattle.network.proofs.Loop.{loop-in}
 use Rattle.network.proofs.Pigeonhole.{pigeonhole, room-left}
 
--- The state of a round that began with `count₀` gates placed as `place₀` says, once the gates below g are visited.
-pub record Round (E : ℕ → ℕ → Type 0) (n : ℕ) (waiting place₀ : List ℕ) (count₀ g : ℕ) (place order : List ℕ) (count : ℕ) : Type 0 where
+-- The state of a round that began with `count₀` gates placed as `place₀` and `order₀` say, once the gates below g are visited.
+pub record Round (E : ℕ → ℕ → Type 0) (n : ℕ) (waiting place₀ order₀ : List ℕ) (count₀ g : ℕ) (place order : List ℕ) (count : ℕ) : Type 0 where
   pub placed : Placed E n place order count
   pub grown : count₀ ≤ count
   pub front : (h : ℕ) → h < n → getD place₀ h 0 < n → getD place h 0 < count₀
   pub wait : (h : ℕ) → h < g → n ≤ getD place h 0 → getD waiting h 0 ≢ 0
   pub same : count ≡ count₀ → place ≡ place₀
+  pub beyond : SameBeyond n order₀ order
 
 module _ (E : ℕ → ℕ → Type 0) (n : ℕ) (joins-gates : (a b : ℕ) → E a b → (a < n) × (b < n)) where
   pub none-placed : (place order : List ℕ) → ((g : ℕ) → g < n → n ≤ getD place g 0) → Placed E n place order 0
@@ -122,20 +123,21 @@ module _ (E : ℕ → ℕ → Type 0) (n : ℕ) (joins-gates : (a b : ℕ) → E
           }
 
   -- What a visit and a round keep, where the marks tell which gates waited when the round began.
-  module _ (waiting place₀ : List ℕ) (count₀ : ℕ) (M : Marks (Waits E n place₀) n waiting) where
-    pub round-begins : (order : List ℕ) → Placed E n place₀ order count₀ → Round E n waiting place₀ count₀ 0 place₀ order count₀
-    round-begins order P =
+  module _ (waiting place₀ order₀ : List ℕ) (count₀ : ℕ) (M : Marks (Waits E n place₀) n waiting) where
+    pub round-begins : Placed E n place₀ order₀ count₀ → Round E n waiting place₀ order₀ count₀ 0 place₀ order₀ count₀
+    round-begins P =
         record {
           placed = P;
           grown = omega arith;
           front = P .has-place;
           wait = λ h l. absurd (not-suc-le-zero l);
           same = λ e. refl;
+          beyond = λ k h. refl;
         }
 
-    module _ (g : ℕ) (gate : g < n) (place order : List ℕ) (count : ℕ) (R : Round E n waiting place₀ count₀ g place order count) where
+    module _ (g : ℕ) (gate : g < n) (place order : List ℕ) (count : ℕ) (R : Round E n waiting place₀ order₀ count₀ g place order count) where
       -- a gate that is passed over is placed or waits
-      passed : (getD place g 0 < n) ⊎ (getD waiting g 0 ≢ 0) → Round E n waiting place₀ count₀ (g + 1) place order count
+      passed : (getD place g 0 < n) ⊎ (getD waiting g 0 ≢ 0) → Round E n waiting place₀ order₀ count₀ (g + 1) place order count
       passed why =
           record {
             placed = R .placed;
@@ -143,6 +145,7 @@ module _ (E : ℕ → ℕ → Type 0) (n : ℕ) (joins-gates : (a b : ℕ) → E
             front = R .front;
             wait = λ h l. wait⁺ h l why (ℕ-discrete h g);
             same = R .same;
+            beyond = R .beyond;
           }
         where
           wait⁺ : (h : ℕ) → h < g + 1 → (getD place g 0 < n) ⊎ (getD waiting g 0 ≢ 0) → Dec (h ≡ g) → n ≤ getD place h 0 → getD waiting h 0 ≢ 0
@@ -175,7 +178,7 @@ module _ (E : ℕ → ℕ → Type 0) (n : ℕ) (joins-gates : (a b : ℕ) → E
             let p = getD-set-other place g h count 0 d in
             omega arith
 
-        placed-in-round : Round E n waiting place₀ count₀ (g + 1) (set place g count) (set order count g) (count + 1)
+        placed-in-round : Round E n waiting place₀ order₀ count₀ (g + 1) (set place g count) (set order count g) (count + 1)
         placed-in-round =
             let r = room place order count (R .placed) g gate unplaced in
             record {
@@ -184,22 +187,24 @@ module _ (E : ℕ → ℕ → Type 0) (n : ℕ) (joins-gates : (a b : ℕ) → E
               front = front-now;
               wait = λ h l. wait-now h l (ℕ-discrete h g);
               same = λ e. let k = R .grown in absurd (omega arith);
+              beyond = λ k h. getD-set-other order count k g 0 (λ e. omega arith) ∙ R .beyond k h;
             }
 
     pub visit-round : (g : ℕ) → g < n → (place order : List ℕ) (count : ℕ) → g < length place → n ≤ length order
-        → Round E n waiting place₀ count₀ g place order count
+        → Round E n waiting place₀ order₀ count₀ g place order count
         → {place⁺ order⁺ : List ℕ} {count⁺ : ℕ} → Visit n g waiting place order count place⁺ order⁺ count⁺
-        → Round E n waiting place₀ count₀ (g + 1) place⁺ order⁺ count⁺
+        → Round E n waiting place₀ order₀ count₀ (g + 1) place⁺ order⁺ count⁺
     visit-round g gate place order count long fits R (placed-before l) = passed g gate place order count R (inl l)
     visit-round g gate place order count long fits R (waits w) = passed g gate place order count R (inr w)
     visit-round g gate place order count long fits R (placed-now u z) = placed-in-round g gate place order count R u z long fits
 
-    pub round-ends : (place order : List ℕ) (count : ℕ) → Round E n waiting place₀ count₀ n place order count → Advanced E n count₀ place order count
+    pub round-ends : (place order : List ℕ) (count : ℕ) → Round E n waiting place₀ order₀ count₀ n place order count → Advanced E n order₀ count₀ place order count
     round-ends place order count R =
         record {
           placed = R .placed;
           grown = R .grown;
           stuck = λ e g h u. rw (R .same e) (M .right g h (R .wait g h u));
+          beyond = R .beyond;
         }
 
   -- Every gate has a place once there are n.
@@ -253,14 +258,17 @@ module _ (E : ℕ → ℕ → Type 0) (n : ℕ) (joins-gates : (a b : ℕ) → E
             (record { below = λ g h. P .has-place g h (all g h); back = λ g h. P .stands-there g h (all g h) }) in
             absurd (omega arith)
 
-  -- A round that places no gate, though some are left, shows a loop.
-  pub stuck-loop : (place order : List ℕ) (count : ℕ) → Advanced E n count place order count → count < n → (g : ℕ) × Reach E g g
-  stuck-loop place order count A few =
-      let u = some-unplaced place order count (A .placed) few in
+  -- Where gates are left and each of them waits, there is a loop.
+  pub stuck-loop : (place order : List ℕ) (count : ℕ) → Placed E n place order count
+      → ((g : ℕ) → g < n → n ≤ getD place g 0 → Waits E n place g)
+      → count < n
+      → (g : ℕ) × Reach E g g
+  stuck-loop place order count P stuck few =
+      let u = some-unplaced place order count P few in
       loop-in n E (Unplaced place)
       (record {
         bounded = λ g s. s .0;
         decided = λ g. unplaced-decided place g (decLt g n) (decLe n (getD place g 0));
-        fed = λ g s. let w = A .stuck refl g (s .0) (s .1) in (w .source, (joins-gates (w .source) g (w .wire) .0, w .unplaced), w .wire);
+        fed = λ g s. let w = stuck g (s .0) (s .1) in (w .source, (joins-gates (w .source) g (w .wire) .0, w .unplaced), w .wire);
       })
       (u .0) (u .1)

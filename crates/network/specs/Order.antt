@@ -42,8 +42,13 @@ pub data Visit (n g : ℕ) (waiting place order : List ℕ) (count : ℕ) : List
       → getD waiting g 0 ≡ 0
       → Visit n g waiting place order count (set place g count) (set order count g) (count + 1)
 
--- What a round does that starts with `before` gates placed: if it places none, every gate that is not placed waits.
-pub record Advanced (E : ℕ → ℕ → Type 0) (n before : ℕ) (place order : List ℕ) (count : ℕ) : Type 0 where
+-- Beyond its first n elements a list is as it was.
+abbrev pub SameBeyond : ℕ → List ℕ → List ℕ → Type 0
+SameBeyond n before after = (k : ℕ) → n ≤ k → getD after k 0 ≡ getD before k 0
+
+-- What a round does that starts with `count₀` gates placed in `order₀`: if it places none, every gate that is not placed waits.
+pub record Advanced (E : ℕ → ℕ → Type 0) (n : ℕ) (order₀ : List ℕ) (count₀ : ℕ) (place order : List ℕ) (count : ℕ) : Type 0 where
   pub placed : Placed E n place order count
-  pub grown : before ≤ count
-  pub stuck : count ≡ before → (g : ℕ) → g < n → n ≤ getD place g 0 → Waits E n place g
+  pub grown : count₀ ≤ count
+  pub stuck : count ≡ count₀ → (g : ℕ) → g < n → n ≤ getD place g 0 → Waits E n place g
+  pub beyond : SameBeyond n order₀ order

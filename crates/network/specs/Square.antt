@@ -2,7 +2,7 @@
 use mathlib.Core.Path.{_≡_}
 use mathlib.Core.Logic.{_≢_}
 use mathlib.Core.List.{List}
-use Prim.Native.Nat.{ℕ, suc, _+_, _*_, _<_}
+use Prim.Native.Nat.{ℕ, suc, _+_, _*_, _≤_, _<_}
 use lib.ListN.{getD, set}
 use Rattle.model.specs.Limits.{max-gates}
 
@@ -49,3 +49,9 @@ Closed start n k = PairMarks (Through (Pair n start) k) n
 pub data PairVisit (k a b : ℕ) (square : List ℕ) : List ℕ → Type 0 where
   joined : Paired square k b → PairVisit k a b square (set square (pair-place a b) 1)
   passed : getD square (pair-place k b) 0 ≡ 0 → PairVisit k a b square square
+
+-- What a visit to gate g answers, where `found` is the gate found before, or n: the gate found before, or g if there is none and its pair with itself is marked.
+pub data SelfVisit (n g found : ℕ) (square : List ℕ) : ℕ → Type 0 where
+  found-before : found < n → SelfVisit n g found square found
+  unmarked : getD square (pair-place g g) 0 ≡ 0 → SelfVisit n g found square found
+  found-now : n ≤ found → Paired square g g → SelfVisit n g found square g

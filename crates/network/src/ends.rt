@@ -1,8 +1,7 @@
 // Refusal 9: the lowest gate that has a wire where it must have none, or none where it must have one.
 use super::Faults;
 use super::marking::mark_keys;
-ghost use mathlib.Core.Path.{_≡_};
-ghost use Prim.Native.Nat.{ℕ, _≤_, _<_};
+ghost use Prim.Native.Nat.{_≤_, _<_};
 ghost use lib.ListN.{length};
 ghost use Rattle.lists.specs.Search.{Says};
 ghost use Rattle.model.specs.Block.{Block};

@@ -9,6 +9,7 @@ ghost use Prim.Native.Nat.{_≤_};
 ghost use lib.ListN.{length};
 ghost use Rattle.model.specs.Block.{Block};
 ghost use Rattle.network.specs.Wires.{Lent, InArrays, EndsAt};
+ghost use Rattle.network.specs.Order.{SameBeyond};
 ghost use Rattle.network.specs.Judged.{Judged};
 
 // Refusal 9 alone.
@@ -42,6 +43,7 @@ pub fn judge_network(
     requires { ⌜ Lent n m (now sources) (now targets) ⌝ }
     requires { ⌜ n ≤ length (now order) ⌝ }
     ensures { λ r. ⌜ ((B : Block) → InArrays B n m (now (sources .entry)) (now (targets .entry)) → EndsAt B first last → Judged B (now (order .exit)) r) ⌝ }
+    ensures { λ r. ⌜ SameBeyond n (now (order .entry)) (now (order .exit)) ⌝ }
 {
     let ordered = ordering::order_gates(n, m, sources, targets, order);
     if !ordered {

@@ -10,7 +10,7 @@ ghost use Rattle.model.specs.Block.{Block};
 ghost use Rattle.model.specs.Refusal.{OnLoop};
 ghost use Rattle.network.specs.Wires.{Lent, Wired, InArrays};
 ghost use Rattle.network.specs.Marks.{First};
-ghost use Rattle.network.specs.Square.{square-size, Paired, PairMarks, Closing, Closed, PairVisit};
+ghost use Rattle.network.specs.Square.{square-size, Paired, PairMarks, Closing, Closed, PairVisit, SelfVisit};
 
 // Marks each pair of gates that a wire joins; no mark may be set before.
 fn mark_pairs(n: usize, m: usize, sources: &[u32], targets: &[u32], square: &mut [u8])
@@ -90,20 +90,34 @@ fn close_square(n: usize, square: &mut [u8])
     }
 }
 
+// The gate found so far, which is n if there is none; then gate g if its pair with itself is marked.
+fn visit_self(n: usize, g: usize, found: usize, square: &[u8]) -> usize
+    requires { ⌜ g < max-gates ⌝ }
+    requires { ⌜ square-size ≤ length (now square) ⌝ }
+    ensures { λ r. ⌜ SelfVisit n g found (now (square .entry)) r ⌝ }
+{
+    if found < n {
+        return found;
+    }
+    if square[g * 64 + g] == 0 {
+        return found;
+    }
+    g
+}
+
 // The lowest gate whose pair with itself is marked, or n where there is none.
 fn first_paired(n: usize, square: &[u8]) -> usize
     requires { ⌜ n ≤ max-gates ⌝ }
     requires { ⌜ square-size ≤ length (now square) ⌝ }
     ensures { λ r. ⌜ First (λ (g : ℕ). Paired (now (square .entry)) g g) n r ⌝ }
 {
+    let mut found = n;
     let mut g = 0;
     while g < n {
-        if square[g * 64 + g] != 0 {
-            return g;
-        }
+        found = visit_self(n, g, found, square);
         g += 1;
     }
-    g
+    found
 }
 
 // The lowest gate that reaches itself, or n where there is none.

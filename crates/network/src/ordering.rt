@@ -8,7 +8,7 @@ ghost use Rattle.model.specs.Limits.{max-gates};
 ghost use Rattle.model.specs.Block.{Block};
 ghost use Rattle.network.specs.Wires.{Lent, Wired, InArrays};
 ghost use Rattle.network.specs.Marks.{Marks};
-ghost use Rattle.network.specs.Order.{Placed, Waits, WireVisit, Visit, Advanced};
+ghost use Rattle.network.specs.Order.{Placed, Waits, WireVisit, Visit, SameBeyond, Advanced};
 ghost use Rattle.network.specs.Judged.{OrderFound};
 
 // Marks gate `target` if gate `source` is not placed.
@@ -83,7 +83,7 @@ fn place_free(
     requires { ⌜ (n ≤ length (now waiting)) × (n ≤ length (now place)) × (n ≤ length (now order)) ⌝ }
     requires { ⌜ Marks (Waits (Wired m (now sources) (now targets)) n (now place)) n (now waiting) ⌝ }
     requires { ⌜ Placed (Wired m (now sources) (now targets)) n (now place) (now order) placed ⌝ }
-    ensures { λ r. ⌜ Advanced (Wired m (now (sources .entry)) (now (targets .entry))) n placed (now (place .exit)) (now (order .exit)) r ⌝ }
+    ensures { λ r. ⌜ Advanced (Wired m (now (sources .entry)) (now (targets .entry))) n (now (order .entry)) placed (now (place .exit)) (now (order .exit)) r ⌝ }
 {
     let mut count = placed;
     let mut g = 0;
@@ -107,7 +107,7 @@ fn place_round(
     requires { ⌜ Lent n m (now sources) (now targets) ⌝ }
     requires { ⌜ (n ≤ length (now place)) × (n ≤ length (now order)) ⌝ }
     requires { ⌜ Placed (Wired m (now sources) (now targets)) n (now place) (now order) placed ⌝ }
-    ensures { λ r. ⌜ Advanced (Wired m (now (sources .entry)) (now (targets .entry))) n placed (now (place .exit)) (now (order .exit)) r ⌝ }
+    ensures { λ r. ⌜ Advanced (Wired m (now (sources .entry)) (now (targets .entry))) n (now (order .entry)) placed (now (place .exit)) (now (order .exit)) r ⌝ }
 {
     let mut waiting = [0u8; 64];
     mark_waiting(n, m, sources, targets, place, &mut waiting);
@@ -119,6 +119,7 @@ pub fn order_gates(n: usize, m: usize, sources: &[u32], targets: &[u32], order: 
     requires { ⌜ Lent n m (now sources) (now targets) ⌝ }
     requires { ⌜ n ≤ length (now order) ⌝ }
     ensures { λ r. ⌜ ((B : Block) → InArrays B n m (now (sources .entry)) (now (targets .entry)) → OrderFound B (now (order .exit)) r) ⌝ }
+    ensures { λ r. ⌜ SameBeyond n (now (order .entry)) (now (order .exit)) ⌝ }
 {
     let mut place = [64u32; 64];
     let mut count = 0;

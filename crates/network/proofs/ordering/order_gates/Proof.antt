@@ -6,7 +6,7 @@ use Prim.Native.Nat.{ℕ, _-_}
 use native.Mathlib.Omega.{arith}
 use lib.ListN.{length, length-replicate, getD-replicate}
 use Rattle.network.specs.Wires.{Wired}
-use Rattle.network.specs.Order.{Placed}
+use Rattle.network.specs.Order.{Placed, SameBeyond}
 use Rattle.network.proofs.Wires.{wired-gates}
 use Rattle.network.proofs.Rounds.{none-placed, stuck-loop, whole-order}
 use Rattle.network.proofs.Answers.{order-found, loop-found}
@@ -14,7 +14,7 @@ use Rattle.network.proofs.ordering.order_gates.Statement.{statement}
 use Rattle.network.proofs.ordering.order_gates.Tie as tie
 
 abbrev Inv-loop : tie.InvT-loop
-Inv-loop n m sources targets order₀ place₀ count₀ order place count = (length order ≡ length order₀) × (length place ≡ 64) × Placed (Wired m sources targets) n place order count
+Inv-loop n m sources targets order₀ place₀ count₀ order place count = (length order ≡ length order₀) × (length place ≡ 64) × Placed (Wired m sources targets) n place order count × SameBeyond n order₀ order
 
 abbrev μ-loop : tie.MeasureT-loop
 μ-loop n m sources targets order₀ place₀ count₀ order place count = n - count
@@ -22,7 +22,7 @@ abbrev μ-loop : tie.MeasureT-loop
 loop-holds : tie.Need-loop-holds Inv-loop μ-loop
 loop-holds c = let a = c .before .before .before .args in
     let few = c .before .before .before .pre .0 .gates in
-    (refl, length-replicate {A = ℕ} 64 64, none-placed (Wired (a .m) (a .sources .now) (a .targets .now)) (a .n) (wired-gates (c .before .before .before .pre .0)) _ (a .order .now) (λ g h. let e = getD-replicate {A = ℕ} 64 g 64 0 (omega arith) in omega arith))
+    (refl, length-replicate {A = ℕ} 64 64, none-placed (Wired (a .m) (a .sources .now) (a .targets .now)) (a .n) (wired-gates (c .before .before .before .pre .0)) _ (a .order .now) (λ g h. let e = getD-replicate {A = ℕ} 64 g 64 0 (omega arith) in omega arith), λ k h. refl)
 
 slice-aggregate-place-round : tie.Need-slice-aggregate-place-round Inv-loop μ-loop
 slice-aggregate-place-round c = search needs
@@ -39,8 +39,11 @@ same-length c = c .before .before .before .before .place-round .kept .1 .1 .1 .1
 
 returns : tie.Need-returns Inv-loop μ-loop
 returns c = let a = c .before .before .before .before .before .before .before .before .before .before .before .before .args in
-    λ B I. loop-found B (a .n) (a .m) (a .sources .now) (a .targets .now) I (c .before .before .before .before .place-round .last .1 .1 .1 .1 .1 .0)
-    (stuck-loop (Wired (a .m) (a .sources .now) (a .targets .now)) (a .n) (wired-gates (c .before .before .before .before .before .before .before .before .before .before .before .before .pre .0)) (c .before .before .before .before .place-round .last .1 .1 .1 .1 .0) (c .before .before .before .before .place-round .last .1 .1 .1 .1 .1 .0) (c .before .before .before .before .before .before .before .before .loop .count) (rw (c .if1 .taken) at (c .before .before .before .before .place-round .ensures)) (c .before .before .before .before .before .before .before .loop-test .taken))
+    let A = c .before .before .before .before .place-round .ensures in (
+      λ B I. loop-found B (a .n) (a .m) (a .sources .now) (a .targets .now) I (c .before .before .before .before .place-round .last .1 .1 .1 .1 .1 .0)
+          (stuck-loop (Wired (a .m) (a .sources .now) (a .targets .now)) (a .n) (wired-gates (c .before .before .before .before .before .before .before .before .before .before .before .before .pre .0)) (c .before .before .before .before .place-round .last .1 .1 .1 .1 .0) (c .before .before .before .before .place-round .last .1 .1 .1 .1 .1 .0) (c .before .before .before .before .before .before .before .before .loop .count) (rw (c .if1 .taken) at (A .placed)) (A .stuck (c .if1 .taken)) (c .before .before .before .before .before .before .before .loop-test .taken)),
+      λ k h. A .beyond k h ∙ c .before .before .before .before .before .before .before .before .loop .inv .3 k h,
+    )
 
 loop-less : tie.Need-loop-less Inv-loop μ-loop
 loop-less c = let g = c .before .before .before .before .place-round .ensures .grown in
@@ -49,7 +52,7 @@ loop-less c = let g = c .before .before .before .before .place-round .ensures .g
     omega arith
 
 loop-again : tie.Need-loop-again Inv-loop μ-loop
-loop-again c = (c .before .before .before .before .place-round .kept .1 .1 .1 .1 .1 .0 ∙ c .before .before .before .before .before .before .before .before .loop .inv .0, c .before .before .before .before .place-round .kept .1 .1 .1 .1 .0 ∙ c .before .before .before .before .before .before .before .before .loop .inv .1, c .before .before .before .before .place-round .ensures .placed)
+loop-again c = (c .before .before .before .before .place-round .kept .1 .1 .1 .1 .1 .0 ∙ c .before .before .before .before .before .before .before .before .loop .inv .0, c .before .before .before .before .place-round .kept .1 .1 .1 .1 .0 ∙ c .before .before .before .before .before .before .before .before .loop .inv .1, c .before .before .before .before .place-round .ensures .placed, λ k h. c .before .before .before .before .place-round .ensures .beyond k h ∙ c .before .before .before .before .before .before .before .before .loop .inv .3 k h)
 
 same-length-2 : tie.Need-same-length-2 Inv-loop μ-loop
 same-length-2 c = search needs
@@ -57,9 +60,11 @@ same-length-2 c = search needs
 returns-2 : tie.Need-returns-2 Inv-loop μ-loop
 returns-2 c = let a = c .before .before .before .before .before .args in
     let w = c .before .loop .inv .2 .within in
-    let e : c .before .loop .count ≡ a .n = omega arith in
-    λ B I. order-found B (a .n) (a .m) (a .sources .now) (a .targets .now) I (c .before .loop .order)
-    (whole-order (Wired (a .m) (a .sources .now) (a .targets .now)) (a .n) (wired-gates (c .before .before .before .before .before .pre .0)) (c .before .loop .place) (c .before .loop .order) (rw e at (c .before .loop .inv .2)))
+    let e : c .before .loop .count ≡ a .n = omega arith in (
+      λ B I. order-found B (a .n) (a .m) (a .sources .now) (a .targets .now) I (c .before .loop .order)
+          (whole-order (Wired (a .m) (a .sources .now) (a .targets .now)) (a .n) (wired-gates (c .before .before .before .before .before .pre .0)) (c .before .loop .place) (c .before .loop .order) (rw e at (c .before .loop .inv .2))),
+      c .before .loop .inv .3,
+    )
 
 pub order-gates-spec : {M : Type 1} → statement M
 order-gates-spec = tie.close (tie.spec Inv-loop μ-loop loop-holds slice-aggregate-place-round place-round-requires same-length returns loop-less loop-again same-length-2 returns-2)

@@ -12,7 +12,7 @@ use Rattle.network.proofs.ordering.place_free.Statement.{statement}
 use Rattle.network.proofs.ordering.place_free.Tie as tie
 
 abbrev Inv-loop : tie.InvT-loop
-Inv-loop n m sources targets waiting place₀ order₀ placed count₀ g₀ place order count g = (g ≤ n) × (length place ≡ length place₀) × (length order ≡ length order₀) × Round (Wired m sources targets) n waiting place₀ placed g place order count
+Inv-loop n m sources targets waiting place₀ order₀ placed count₀ g₀ place order count g = (g ≤ n) × (length place ≡ length place₀) × (length order ≡ length order₀) × Round (Wired m sources targets) n waiting place₀ order₀ placed g place order count
 
 abbrev μ-loop : tie.MeasureT-loop
 μ-loop n m sources targets waiting place₀ order₀ placed count₀ g₀ place order count g = n - g
@@ -20,7 +20,7 @@ abbrev μ-loop : tie.MeasureT-loop
 loop-holds : tie.Need-loop-holds Inv-loop μ-loop
 loop-holds c = let a = c .before .before .before .before .before .args in
     let E = Wired (a .m) (a .sources .now) (a .targets .now) in
-    (omega arith, refl, refl, round-begins E (a .n) (wired-gates (c .before .before .before .before .before .pre .0)) (a .waiting .now) (a .place .now) (a .placed) (c .before .before .before .before .before .pre .1 .1 .0) (a .order .now) (c .before .before .before .before .before .pre .1 .1 .1))
+    (omega arith, refl, refl, round-begins E (a .n) (wired-gates (c .before .before .before .before .before .pre .0)) (a .waiting .now) (a .place .now) (a .order .now) (a .placed) (c .before .before .before .before .before .pre .1 .1 .0) (c .before .before .before .before .before .pre .1 .1 .1))
 
 visit-gate-requires : tie.Need-visit-gate-requires Inv-loop μ-loop
 visit-gate-requires c κs = let a = c .before .before .before .before .before .before .before .before .before .args in
@@ -52,7 +52,7 @@ loop-again c = let a = c .before .before .before .before .before .before .before
       omega arith,
       c .before .before .before .before .visit-gate .kept .1 .1 .1 .0 ∙ e,
       c .before .before .before .before .visit-gate .kept .1 .1 .1 .1 .0 ∙ f,
-      visit-round (Wired (a .m) (a .sources .now) (a .targets .now)) (a .n) (wired-gates (c .before .before .before .before .before .before .before .before .before .before .before .before .before .before .pre .0)) (a .waiting .now) (a .place .now) (a .placed) (c .before .before .before .before .before .before .before .before .before .before .before .before .before .before .pre .1 .1 .0) (c .before .before .before .before .before .before .before .before .loop .g) t (c .before .before .before .before .before .before .before .before .loop .place) (c .before .before .before .before .before .before .before .before .loop .order) (c .before .before .before .before .before .before .before .before .loop .count) (omega arith) (omega arith) (c .before .before .before .before .before .before .before .before .loop .inv .3) (c .before .before .before .before .visit-gate .ensures),
+      visit-round (Wired (a .m) (a .sources .now) (a .targets .now)) (a .n) (wired-gates (c .before .before .before .before .before .before .before .before .before .before .before .before .before .before .pre .0)) (a .waiting .now) (a .place .now) (a .order .now) (a .placed) (c .before .before .before .before .before .before .before .before .before .before .before .before .before .before .pre .1 .1 .0) (c .before .before .before .before .before .before .before .before .loop .g) t (c .before .before .before .before .before .before .before .before .loop .place) (c .before .before .before .before .before .before .before .before .loop .order) (c .before .before .before .before .before .before .before .before .loop .count) (omega arith) (omega arith) (c .before .before .before .before .before .before .before .before .loop .inv .3) (c .before .before .before .before .visit-gate .ensures),
     )
 
 same-length : tie.Need-same-length Inv-loop μ-loop
@@ -64,7 +64,7 @@ same-length-2 c = search needs
 returns : tie.Need-returns Inv-loop μ-loop
 returns c = let a = c .before .before .before .before .before .before .before .args in
     let e : c .before .loop .g ≡ a .n = omega arith in
-    round-ends (Wired (a .m) (a .sources .now) (a .targets .now)) (a .n) (wired-gates (c .before .before .before .before .before .before .before .pre .0)) (a .waiting .now) (a .place .now) (a .placed) (c .before .before .before .before .before .before .before .pre .1 .1 .0) (c .before .loop .place) (c .before .loop .order) (c .before .loop .count) (rw e at (c .before .loop .inv .3))
+    round-ends (Wired (a .m) (a .sources .now) (a .targets .now)) (a .n) (wired-gates (c .before .before .before .before .before .before .before .pre .0)) (a .waiting .now) (a .place .now) (a .order .now) (a .placed) (c .before .before .before .before .before .before .before .pre .1 .1 .0) (c .before .loop .place) (c .before .loop .order) (c .before .loop .count) (rw e at (c .before .loop .inv .3))
 
 pub place-free-spec : {M : Type 1} → statement M
 place-free-spec = tie.close (tie.spec Inv-loop μ-loop loop-holds visit-gate-requires add-g loop-less loop-again same-length same-length-2 returns)

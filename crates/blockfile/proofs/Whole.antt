@@ -1,0 +1,91 @@
+-- The whole file: what its block field, its gates and its wires were read to, is what `read-block` says.
+-- Assumes nothing.
+use mathlib.Core.Path.{_≡_, sym, _∙_, ap}
+use mathlib.Core.Bool.{Bool, _&&_}
+use mathlib.Core.List.{List, [], map}
+use Prim.Native.Nat.{ℕ, _+_, _≤_}
+use native.Mathlib.Omega.{arith}
+use borrow.Author.Tests.{eqb-true}
+use lib.Dec.{T, leb, eqb, leb→le}
+use lib.ListN.{length, getD}
+use Rattle.lists.proofs.Bool.{and-left, and-right}
+use Rattle.model.specs.declared.Refusal.{Refusal}
+use Rattle.model.specs.Limits.{max-wires}
+use Rattle.model.specs.Block.{Gate, Wire, Block}
+use Rattle.model.specs.Netlist.{DrawnGate, Netlist, gate-of, block-of}
+use Rattle.model.specs.Field.{number}
+use Rattle.model.specs.File.{Due, block, Header, says, in-range, Reading, found, refused, read-field, read-gates, read-wires, decode, read-block, netlist}
+use Rattle.model.specs.Activity.{activity}
+use Rattle.model.specs.Answer.{refusal, refusal-answer}
+use Rattle.model.proofs.Reading.{read-gates-inside, decode-block-refused, decode-gates-refused, decode-wires-refused, decode-found}
+use Rattle.blockfile.specs.Reads.{refusing, reading-map}
+use Rattle.blockfile.proofs.Judged.{Judged, judged-refused, judged-fits, judged-found, judged-inside, judged-ranges}
+use Rattle.blockfile.proofs.Gates.{FoundBefore, map-found, map-refused}
+
+-- what `decode` comes to, `read-block` does
+module _ (s : List ℕ) where
+  whole-refused : (x : Refusal) → decode s ≡ refusing x → refusing x ≡ read-block s
+  unfolding read-block
+  whole-refused x e = rw e
+
+  whole-found : (N : Netlist) (o : ℕ) → decode s ≡ found N o → found (block-of N) o ≡ read-block s
+  unfolding read-block
+  whole-found N o e = rw e
+
+module _ {s : List ℕ} {m : ℕ} {b : List ℕ} (j : Judged block s 0 m b) where
+  pub block-refused : (x : Refusal) → (m ≡ 0 → ⊥) → refusal-answer x ≡ refusal m 0 → refusing x ≡ read-block s
+  block-refused x z e = whole-refused s x (decode-block-refused s (sym (judged-refused j x z e)))
+
+  module _ (z : m ≡ 0) where
+    pub eight-bytes : length b ≡ 8
+    eight-bytes = eqb-true (length b) 8 (judged-fits j z)
+
+    -- the tests of `in-range` in their order
+    pub gates-at-most : getD b 1 0 ≤ 64
+    gates-at-most =
+        let h = says block b in
+        let t : T (in-range block h) = rw (judged-ranges j z) tt in
+        let one = eqb (h .edition) 1 in
+        let least = leb 1 (h .gate-count) in
+        let most = leb (h .gate-count) 64 in
+        let arrival = leb (h .arrival) 65535 in
+        let deadline = leb (h .deadline) 65535 in
+        let p = leb (h .probability) 256 in
+        leb→le (getD b 1 0) 64
+        (and-right (one && least) most (and-left (one && least && most) arrival (and-left (one && least && most && arrival) deadline (and-left (one && least && most && arrival && deadline) p t))))
+
+    pub gates-from : 3 + length b ≤ length s
+    gates-from = let h = judged-inside j z in omega arith
+
+    header : read-field block s 0 ≡ found (says block b) (3 + length b)
+    header =
+        let e : 0 + 3 + length b ≡ 3 + length b = omega arith in
+        judged-found j z ∙ ap (found (says block b)) e
+
+    -- a gate is refused
+    pub block-gates-refused : (x : Refusal) → refusing x ≡ reading-map (map gate-of) (read-gates (getD b 1 0) s (3 + length b)) → refusing x ≡ read-block s
+    block-gates-refused x e =
+        whole-refused s x
+        (decode-gates-refused s header (map-refused (map gate-of) (read-gates (getD b 1 0) s (3 + length b)) (refusal-answer x .number) (getD (refusal-answer x .values) 0 0) e))
+
+    module _ (gs : List Gate) (q : ℕ) (g : found gs q ≡ reading-map (map gate-of) (read-gates (getD b 1 0) s (3 + length b))) where
+      drawn : FoundBefore (map gate-of) (read-gates (getD b 1 0) s (3 + length b)) gs q
+      drawn = map-found (map gate-of) (read-gates (getD b 1 0) s (3 + length b)) gs q g
+
+      -- the wires begin within the file
+      pub wires-from : q ≤ length s
+      wires-from = read-gates-inside s (getD b 1 0) (3 + length b) gates-from (drawn .was-found)
+
+      -- a wire is refused
+      pub block-wires-refused : (x : Refusal) → refusing x ≡ read-wires max-wires (getD b 1 0) [] s q → refusing x ≡ read-block s
+      block-wires-refused x e = whole-refused s x (decode-wires-refused s header (drawn .was-found) (sym e))
+
+      -- the block is found
+      pub block-found : (ws : List Wire) (arrival deadline u : ℕ) → found ws (length s) ≡ read-wires max-wires (getD b 1 0) [] s q
+          → arrival ≡ number b 2
+          → deadline ≡ number b 4
+          → u ≡ activity (number b 6)
+          → found (record { arrival = arrival; deadline = deadline; activity = u; gates = gs; wires = ws }) (length s) ≡ read-block s
+      block-found ws arrival deadline u e ea ed eu =
+          rw (ea, ed, eu, drawn .seen)
+          (whole-found s (netlist (says block b) (drawn .value) ws) (length s) (decode-found s header (drawn .was-found) (sym e)))

@@ -1,0 +1,91 @@
+-- `blockfile::read::read_wire` meets its contract: the field is judged, and refused or stored and noted in the table.
+-- Assumes nothing.
+use borrow.Author.Needs.{needs}
+use native.Mathlib.Omega.{arith}
+use Rattle.model.specs.File.{wire}
+use Rattle.blockfile.proofs.Judged.{judged, at-most-6, judged-inside}
+use Rattle.blockfile.proofs.Wires.{two-gates, wire-refused, wire-found}
+use Rattle.blockfile.proofs.read.read_wire.Statement.{statement}
+use Rattle.blockfile.proofs.read.read_wire.Tie as tie
+
+field-body-requires : tie.Need-field-body-requires
+field-body-requires c κs = search needs
+
+due-field-requires : tie.Need-due-field-requires
+due-field-requires c κs = search needs
+
+wire-fault-requires : tie.Need-wire-fault-requires
+wire-fault-requires c κs = search needs
+
+refusal-of-requires : tie.Need-refusal-of-requires
+refusal-of-requires c κs = (omega (arith, c .if1 .taken), at-most-6 (judged (wire (c .before .before .before .before .before .before .before .before .before .before .args .gates) (c .before .before .before .before .before .before .before .before .before .before .pre .1 .1 .1 .0)) (c .before .before .before .before .before .before .before .before .before .before .args .file .now) (c .before .before .before .before .before .before .before .before .before .before .args .offset) (c .before .wire-fault .result) (c .before .before .before .due-field .result) (c .before .before .before .before .field-body .result .now) (c .before .before .before .due-field .ensures) (c .before .before .before .before .field-body .ensures .0) (c .before .wire-fault .ensures (c .before .before .before .before .before .before .before .before .before .before .pre .1 .1 .1 .0) (c .before .before .before .before .before .before .before .before .before .before .pre .1 .1 .1 .1))))
+
+same-length : tie.Need-same-length
+same-length c = search needs
+
+returns : tie.Need-returns
+returns c = wire-refused (λ ws m. judged (wire (c .before .before .before .before .before .before .before .before .before .before .before .args .gates) ws) (c .before .before .before .before .before .before .before .before .before .before .before .args .file .now) (c .before .before .before .before .before .before .before .before .before .before .before .args .offset) (c .before .before .wire-fault .result) (c .before .before .before .before .due-field .result) (c .before .before .before .before .before .field-body .result .now) (c .before .before .before .before .due-field .ensures) (c .before .before .before .before .before .field-body .ensures .0) (c .before .before .wire-fault .ensures ws m)) _ _ (c .before .if1 .taken) (c .refusal-of .ensures)
+
+shared-slice-read-wide : tie.Need-shared-slice-read-wide
+shared-slice-read-wide c = omega (arith, (two-gates (judged (wire (c .before .before .before .before .before .before .before .before .before .before .before .args .gates) (c .before .before .before .before .before .before .before .before .before .before .before .pre .1 .1 .1 .0)) (c .before .before .before .before .before .before .before .before .before .before .before .args .file .now) (c .before .before .before .before .before .before .before .before .before .before .before .args .offset) (c .before .before .wire-fault .result) (c .before .before .before .before .due-field .result) (c .before .before .before .before .before .field-body .result .now) (c .before .before .before .before .due-field .ensures) (c .before .before .before .before .before .field-body .ensures .0) (c .before .before .wire-fault .ensures (c .before .before .before .before .before .before .before .before .before .before .before .pre .1 .1 .1 .0) (c .before .before .before .before .before .before .before .before .before .before .before .pre .1 .1 .1 .1))) (c .before .if1 .left)) .two)
+
+wide-requires : tie.Need-wide-requires
+wide-requires c κs = search needs
+
+mul-sources : tie.Need-mul-sources
+mul-sources c = search needs
+
+slice-write-sources : tie.Need-slice-write-sources
+slice-write-sources c = search needs
+
+shared-slice-read-wide-2 : tie.Need-shared-slice-read-wide-2
+shared-slice-read-wide-2 c = omega (arith, (two-gates (judged (wire (c .before .before .before .before .before .before .before .before .before .before .before .before .before .args .gates) (c .before .before .before .before .before .before .before .before .before .before .before .before .before .pre .1 .1 .1 .0)) (c .before .before .before .before .before .before .before .before .before .before .before .before .before .args .file .now) (c .before .before .before .before .before .before .before .before .before .before .before .before .before .args .offset) (c .before .before .before .before .wire-fault .result) (c .before .before .before .before .before .before .due-field .result) (c .before .before .before .before .before .before .before .field-body .result .now) (c .before .before .before .before .before .before .due-field .ensures) (c .before .before .before .before .before .before .before .field-body .ensures .0) (c .before .before .before .before .wire-fault .ensures (c .before .before .before .before .before .before .before .before .before .before .before .before .before .pre .1 .1 .1 .0) (c .before .before .before .before .before .before .before .before .before .before .before .before .before .pre .1 .1 .1 .1))) (c .before .before .before .if1 .left)) .two)
+
+wide-requires-2 : tie.Need-wide-requires-2
+wide-requires-2 c κs = search needs
+
+mul-targets : tie.Need-mul-targets
+mul-targets c = search needs
+
+slice-write-targets : tie.Need-slice-write-targets
+slice-write-targets c = search needs
+
+mul-wire-delays : tie.Need-mul-wire-delays
+mul-wire-delays c = search needs
+
+slice-write-wire-delays : tie.Need-slice-write-wire-delays
+slice-write-wire-delays c = search needs
+
+shared-slice-read-mark : tie.Need-shared-slice-read-mark
+shared-slice-read-mark c = omega (arith, (two-gates (judged (wire (c .before .before .before .before .before .before .before .before .before .before .before .before .before .before .before .before .args .gates) (c .before .before .before .before .before .before .before .before .before .before .before .before .before .before .before .before .pre .1 .1 .1 .0)) (c .before .before .before .before .before .before .before .before .before .before .before .before .before .before .before .before .args .file .now) (c .before .before .before .before .before .before .before .before .before .before .before .before .before .before .before .before .args .offset) (c .before .before .before .before .before .before .before .wire-fault .result) (c .before .before .before .before .before .before .before .before .before .due-field .result) (c .before .before .before .before .before .before .before .before .before .before .field-body .result .now) (c .before .before .before .before .before .before .before .before .before .due-field .ensures) (c .before .before .before .before .before .before .before .before .before .before .field-body .ensures .0) (c .before .before .before .before .before .before .before .wire-fault .ensures (c .before .before .before .before .before .before .before .before .before .before .before .before .before .before .before .before .pre .1 .1 .1 .0) (c .before .before .before .before .before .before .before .before .before .before .before .before .before .before .before .before .pre .1 .1 .1 .1))) (c .before .before .before .before .before .before .if1 .left)) .two)
+
+shared-slice-read-mark-2 : tie.Need-shared-slice-read-mark-2
+shared-slice-read-mark-2 c = omega (arith, (two-gates (judged (wire (c .before .before .before .before .before .before .before .before .before .before .before .before .before .before .before .before .before .args .gates) (c .before .before .before .before .before .before .before .before .before .before .before .before .before .before .before .before .before .pre .1 .1 .1 .0)) (c .before .before .before .before .before .before .before .before .before .before .before .before .before .before .before .before .before .args .file .now) (c .before .before .before .before .before .before .before .before .before .before .before .before .before .before .before .before .before .args .offset) (c .before .before .before .before .before .before .before .before .wire-fault .result) (c .before .before .before .before .before .before .before .before .before .before .due-field .result) (c .before .before .before .before .before .before .before .before .before .before .before .field-body .result .now) (c .before .before .before .before .before .before .before .before .before .before .due-field .ensures) (c .before .before .before .before .before .before .before .before .before .before .before .field-body .ensures .0) (c .before .before .before .before .before .before .before .before .wire-fault .ensures (c .before .before .before .before .before .before .before .before .before .before .before .before .before .before .before .before .before .pre .1 .1 .1 .0) (c .before .before .before .before .before .before .before .before .before .before .before .before .before .before .before .before .before .pre .1 .1 .1 .1))) (c .before .before .before .before .before .before .before .if1 .left)) .two)
+
+mark-requires : tie.Need-mark-requires
+mark-requires c κs = (c .before .before .before .before .before .before .before .before .before .before .before .before .before .before .before .before .before .pre .1 .1 .0, (omega (arith, (two-gates (judged (wire (c .before .before .before .before .before .before .before .before .before .before .before .before .before .before .before .before .before .args .gates) (c .before .before .before .before .before .before .before .before .before .before .before .before .before .before .before .before .before .pre .1 .1 .1 .0)) (c .before .before .before .before .before .before .before .before .before .before .before .before .before .before .before .before .before .args .file .now) (c .before .before .before .before .before .before .before .before .before .before .before .before .before .before .before .before .before .args .offset) (c .before .before .before .before .before .before .before .before .wire-fault .result) (c .before .before .before .before .before .before .before .before .before .before .due-field .result) (c .before .before .before .before .before .before .before .before .before .before .before .field-body .result .now) (c .before .before .before .before .before .before .before .before .before .before .due-field .ensures) (c .before .before .before .before .before .before .before .before .before .before .before .field-body .ensures .0) (c .before .before .before .before .before .before .before .before .wire-fault .ensures (c .before .before .before .before .before .before .before .before .before .before .before .before .before .before .before .before .before .pre .1 .1 .1 .0) (c .before .before .before .before .before .before .before .before .before .before .before .before .before .before .before .before .before .pre .1 .1 .1 .1))) (c .before .before .before .before .before .before .before .if1 .left)) .source, c .before .before .before .before .before .before .before .before .before .before .before .before .before .before .before .before .before .pre .0 .0), omega (arith, (two-gates (judged (wire (c .before .before .before .before .before .before .before .before .before .before .before .before .before .before .before .before .before .args .gates) (c .before .before .before .before .before .before .before .before .before .before .before .before .before .before .before .before .before .pre .1 .1 .1 .0)) (c .before .before .before .before .before .before .before .before .before .before .before .before .before .before .before .before .before .args .file .now) (c .before .before .before .before .before .before .before .before .before .before .before .before .before .before .before .before .before .args .offset) (c .before .before .before .before .before .before .before .before .wire-fault .result) (c .before .before .before .before .before .before .before .before .before .before .due-field .result) (c .before .before .before .before .before .before .before .before .before .before .before .field-body .result .now) (c .before .before .before .before .before .before .before .before .before .before .due-field .ensures) (c .before .before .before .before .before .before .before .before .before .before .before .field-body .ensures .0) (c .before .before .before .before .before .before .before .before .wire-fault .ensures (c .before .before .before .before .before .before .before .before .before .before .before .before .before .before .before .before .before .pre .1 .1 .1 .0) (c .before .before .before .before .before .before .before .before .before .before .before .before .before .before .before .before .before .pre .1 .1 .1 .1))) (c .before .before .before .before .before .before .before .if1 .left)) .target, c .before .before .before .before .before .before .before .before .before .before .before .before .before .before .before .before .before .pre .0 .0)))
+
+add-t19 : tie.Need-add-t19
+add-t19 c = omega (arith, judged-inside (judged (wire (c .before .before .before .before .before .before .before .before .before .before .before .before .before .before .before .before .before .before .before .before .args .gates) (c .before .before .before .before .before .before .before .before .before .before .before .before .before .before .before .before .before .before .before .before .pre .1 .1 .1 .0)) (c .before .before .before .before .before .before .before .before .before .before .before .before .before .before .before .before .before .before .before .before .args .file .now) (c .before .before .before .before .before .before .before .before .before .before .before .before .before .before .before .before .before .before .before .before .args .offset) (c .before .before .before .before .before .before .before .before .before .before .before .wire-fault .result) (c .before .before .before .before .before .before .before .before .before .before .before .before .before .due-field .result) (c .before .before .before .before .before .before .before .before .before .before .before .before .before .before .field-body .result .now) (c .before .before .before .before .before .before .before .before .before .before .before .before .before .due-field .ensures) (c .before .before .before .before .before .before .before .before .before .before .before .before .before .before .field-body .ensures .0) (c .before .before .before .before .before .before .before .before .before .before .before .wire-fault .ensures (c .before .before .before .before .before .before .before .before .before .before .before .before .before .before .before .before .before .before .before .before .pre .1 .1 .1 .0) (c .before .before .before .before .before .before .before .before .before .before .before .before .before .before .before .before .before .before .before .before .pre .1 .1 .1 .1))) (c .before .before .before .before .before .before .before .before .before .before .if1 .left))
+
+add-t31 : tie.Need-add-t31
+add-t31 c = omega (arith, judged-inside (judged (wire (c .before .before .before .before .before .before .before .before .before .before .before .before .before .before .before .before .before .before .before .before .args .gates) (c .before .before .before .before .before .before .before .before .before .before .before .before .before .before .before .before .before .before .before .before .pre .1 .1 .1 .0)) (c .before .before .before .before .before .before .before .before .before .before .before .before .before .before .before .before .before .before .before .before .args .file .now) (c .before .before .before .before .before .before .before .before .before .before .before .before .before .before .before .before .before .before .before .before .args .offset) (c .before .before .before .before .before .before .before .before .before .before .before .wire-fault .result) (c .before .before .before .before .before .before .before .before .before .before .before .before .before .due-field .result) (c .before .before .before .before .before .before .before .before .before .before .before .before .before .before .field-body .result .now) (c .before .before .before .before .before .before .before .before .before .before .before .before .before .due-field .ensures) (c .before .before .before .before .before .before .before .before .before .before .before .before .before .before .field-body .ensures .0) (c .before .before .before .before .before .before .before .before .before .before .before .wire-fault .ensures (c .before .before .before .before .before .before .before .before .before .before .before .before .before .before .before .before .before .before .before .before .pre .1 .1 .1 .0) (c .before .before .before .before .before .before .before .before .before .before .before .before .before .before .before .before .before .before .before .before .pre .1 .1 .1 .1))) (c .before .before .before .before .before .before .before .before .before .before .if1 .left))
+
+same-length-2 : tie.Need-same-length-2
+same-length-2 c = search needs
+
+same-length-3 : tie.Need-same-length-3
+same-length-3 c = search needs
+
+same-length-4 : tie.Need-same-length-4
+same-length-4 c = search needs
+
+same-length-5 : tie.Need-same-length-5
+same-length-5 c = search needs
+
+returns-2 : tie.Need-returns-2
+returns-2 c = let room = c .before .before .before .before .before .before .before .before .before .before .before .before .before .before .before .before .before .before .before .before .pre .1 .0 in
+    wire-found (λ ws m. judged (wire (c .before .before .before .before .before .before .before .before .before .before .before .before .before .before .before .before .before .before .before .before .args .gates) ws) (c .before .before .before .before .before .before .before .before .before .before .before .before .before .before .before .before .before .before .before .before .args .file .now) (c .before .before .before .before .before .before .before .before .before .before .before .before .before .before .before .before .before .before .before .before .args .offset) (c .before .before .before .before .before .before .before .before .before .before .before .wire-fault .result) (c .before .before .before .before .before .before .before .before .before .before .before .before .before .due-field .result) (c .before .before .before .before .before .before .before .before .before .before .before .before .before .before .field-body .result .now) (c .before .before .before .before .before .before .before .before .before .before .before .before .before .due-field .ensures) (c .before .before .before .before .before .before .before .before .before .before .before .before .before .before .field-body .ensures .0) (c .before .before .before .before .before .before .before .before .before .before .before .wire-fault .ensures ws m)) _ _ _ _ _ _ (omega (arith, room .sources, c .before .before .before .before .before .before .before .before .before .before .before .before .before .before .before .before .before .before .before .before .pre .0 .1)) (omega (arith, room .targets, c .before .before .before .before .before .before .before .before .before .before .before .before .before .before .before .before .before .before .before .before .pre .0 .1)) (omega (arith, room .delays, c .before .before .before .before .before .before .before .before .before .before .before .before .before .before .before .before .before .before .before .before .pre .0 .1)) (c .before .before .before .before .before .before .before .before .wide .ensures .0) (c .before .before .before .before .before .before .wide2 .ensures .0) (c .before .before .mark .ensures) (c .before .before .before .before .before .before .before .before .before .before .if1 .left)
+
+pub read-wire-spec : {M : Type 1} → statement M
+read-wire-spec = tie.close (tie.spec field-body-requires due-field-requires wire-fault-requires refusal-of-requires same-length returns shared-slice-read-wide wide-requires mul-sources slice-write-sources shared-slice-read-wide-2 wide-requires-2 mul-targets slice-write-targets mul-wire-delays slice-write-wire-delays shared-slice-read-mark shared-slice-read-mark-2 mark-requires add-t19 add-t31 same-length-2 same-length-3 same-length-4 same-length-5 returns-2)

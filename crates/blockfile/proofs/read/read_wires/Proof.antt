@@ -1,0 +1,93 @@
+-- `blockfile::read::read_wires` meets its contract. The loop's invariant: the wires passed were read and stand in the arrays and in the table, which are as long as they were.
+-- Assumes nothing.
+use borrow.Author.Needs.{needs}
+use mathlib.Core.Path.{_≡_, refl, _∙_}
+use Prim.Native.Nat.{_-_, _<_, _≤_}
+use native.Mathlib.Omega.{arith}
+use lib.ListN.{length}
+use Rattle.blockfile.specs.Held.{wire-arrays, wires-held}
+use Rattle.blockfile.proofs.Wires.{WiresSoFar, so-far-none, so-far-more, so-far-refused, so-far-full, so-far-ended, WireLengths, wire-lengths-same, wire-lengths-room}
+use Rattle.blockfile.proofs.read.read_wires.Statement.{statement}
+use Rattle.blockfile.proofs.read.read_wires.Tie as tie
+
+abbrev Inv-loop : tie.InvT-loop
+Inv-loop file start gates sources₀ targets₀ wire-delays₀ seen₀ offset₀ wires₀ sources targets wire-delays seen offset wires =
+    (wires ≤ 256)
+    × WireLengths (wire-arrays sources targets wire-delays) (wire-arrays sources₀ targets₀ wire-delays₀)
+    × (length seen ≡ length seen₀)
+    × WiresSoFar gates file start wires (wire-arrays sources targets wire-delays) seen offset
+
+abbrev μ-loop : tie.MeasureT-loop
+μ-loop file start gates sources₀ targets₀ wire-delays₀ seen₀ offset₀ wires₀ sources targets wire-delays seen offset wires = 256 - wires
+
+clear-requires : tie.Need-clear-requires Inv-loop μ-loop
+clear-requires c κs = c .before .before .before .before .before .before .pre .1 .1
+
+loop-holds : tie.Need-loop-holds Inv-loop μ-loop
+loop-holds c = (omega arith, wire-lengths-same _, refl, so-far-none _ _ _ _ _ (c .before .before .clear .ensures) (c .before .before .before .before .before .before .before .before .before .pre .0 .0))
+
+read-wire-requires : tie.Need-read-wire-requires Inv-loop μ-loop
+read-wire-requires c κs = ((c .before .before .before .before .before .before .before .before .before .before .before .before .before .before .before .before .pre .0 .1, omega (arith, c .before .before .before .before .before .before .loop .inv .0, c .before .before .before .before .if2 .left)), (wire-lengths-room (c .before .before .before .before .before .before .loop .inv .1) (c .before .before .before .before .before .before .before .before .before .before .before .before .before .before .before .before .pre .1 .0), (omega (arith, c .before .before .before .before .before .before .loop .inv .2, c .before .before .before .before .before .before .before .before .before .clear .kept .0, c .before .before .before .before .before .before .before .before .before .before .before .before .before .before .before .before .pre .1 .1), (wires-held (wire-arrays (c .before .before .before .before .before .before .loop .sources) (c .before .before .before .before .before .before .loop .targets) (c .before .before .before .before .before .before .loop .wire-delays)) (c .before .before .before .before .before .before .loop .wires), c .before .before .before .before .before .before .loop .inv .3 .marks))))
+
+enum-known-passed : tie.Need-enum-known-passed Inv-loop μ-loop
+enum-known-passed c = search needs
+
+enum-known-passed-2 : tie.Need-enum-known-passed-2 Inv-loop μ-loop
+enum-known-passed-2 c = search needs
+
+add-wires : tie.Need-add-wires Inv-loop μ-loop
+add-wires c = omega (arith, c .before .before .before .before .before .before .before .before .before .before .before .before .before .before .before .before .before .before .loop .inv .0)
+
+loop-less : tie.Need-loop-less Inv-loop μ-loop
+loop-less c = omega (arith, c .before .before .before .before .before .before .before .before .before .before .before .before .before .before .before .before .before .before .loop .inv .0, c .before .before .before .before .before .before .before .before .before .before .before .before .before .before .before .before .if2 .left)
+
+loop-again : tie.Need-loop-again Inv-loop μ-loop
+loop-again c = (omega (arith, c .before .before .before .before .before .before .before .before .before .before .before .before .before .before .before .before .before .before .loop .inv .0, c .before .before .before .before .before .before .before .before .before .before .before .before .before .before .before .before .if2 .left), record { sources = c .before .before .before .before .before .before .before .before .before .before .before .read-wire .kept .1 .1 .1 .1 .0 ∙ c .before .before .before .before .before .before .before .before .before .before .before .before .before .before .before .before .before .before .loop .inv .1 .sources; targets = c .before .before .before .before .before .before .before .before .before .before .before .read-wire .kept .1 .1 .1 .1 .1 .0 ∙ c .before .before .before .before .before .before .before .before .before .before .before .before .before .before .before .before .before .before .loop .inv .1 .targets; delays = c .before .before .before .before .before .before .before .before .before .before .before .read-wire .kept .1 .1 .1 .1 .1 .1 .0 ∙ c .before .before .before .before .before .before .before .before .before .before .before .before .before .before .before .before .before .before .loop .inv .1 .delays }, c .before .before .before .before .before .before .before .before .before .before .before .read-wire .kept .1 .1 .1 .1 .1 .1 .1 .0 ∙ c .before .before .before .before .before .before .before .before .before .before .before .before .before .before .before .before .before .before .loop .inv .2, so-far-more (c .before .before .before .before .before .before .before .before .before .before .before .before .before .before .before .before .before .before .loop .inv .3) _ _ _ (c .before .before .before .before .before .before .before .before .before .before .before .before .before .before .before .before .before .if1 .left) (rw (c .before .passed2 .given .1) at (c .before .before .before .before .before .before .before .before .before .before .before .read-wire .ensures)))
+
+same-length : tie.Need-same-length Inv-loop μ-loop
+same-length c = c .before .loop .inv .1 .sources
+
+same-length-2 : tie.Need-same-length-2 Inv-loop μ-loop
+same-length-2 c = c .before .loop .inv .1 .targets
+
+same-length-3 : tie.Need-same-length-3 Inv-loop μ-loop
+same-length-3 c = c .before .loop .inv .1 .delays
+
+same-length-4 : tie.Need-same-length-4 Inv-loop μ-loop
+same-length-4 c = c .before .loop .inv .2 ∙ c .before .before .before .before .clear .kept .0
+
+returns : tie.Need-returns Inv-loop μ-loop
+returns c = so-far-ended (c .before .loop .inv .3) (c .before .loop .inv .0) (c .if1 .taken)
+
+same-length-5 : tie.Need-same-length-5 Inv-loop μ-loop
+same-length-5 c = c .before .before .loop .inv .1 .sources
+
+same-length-6 : tie.Need-same-length-6 Inv-loop μ-loop
+same-length-6 c = c .before .before .loop .inv .1 .targets
+
+same-length-7 : tie.Need-same-length-7 Inv-loop μ-loop
+same-length-7 c = c .before .before .loop .inv .1 .delays
+
+same-length-8 : tie.Need-same-length-8 Inv-loop μ-loop
+same-length-8 c = c .before .before .loop .inv .2 ∙ c .before .before .before .before .before .clear .kept .0
+
+returns-2 : tie.Need-returns-2 Inv-loop μ-loop
+returns-2 c = so-far-full (c .before .before .loop .inv .3) (c .if2 .taken) (c .before .if1 .left)
+
+same-length-9 : tie.Need-same-length-9 Inv-loop μ-loop
+same-length-9 c = c .before .before .before .before .before .before .before .before .before .before .before .read-wire .kept .1 .1 .1 .1 .0 ∙ c .before .before .before .before .before .before .before .before .before .before .before .before .before .before .before .before .before .before .loop .inv .1 .sources
+
+same-length-10 : tie.Need-same-length-10 Inv-loop μ-loop
+same-length-10 c = c .before .before .before .before .before .before .before .before .before .before .before .read-wire .kept .1 .1 .1 .1 .1 .0 ∙ c .before .before .before .before .before .before .before .before .before .before .before .before .before .before .before .before .before .before .loop .inv .1 .targets
+
+same-length-11 : tie.Need-same-length-11 Inv-loop μ-loop
+same-length-11 c = c .before .before .before .before .before .before .before .before .before .before .before .read-wire .kept .1 .1 .1 .1 .1 .1 .0 ∙ c .before .before .before .before .before .before .before .before .before .before .before .before .before .before .before .before .before .before .loop .inv .1 .delays
+
+same-length-12 : tie.Need-same-length-12 Inv-loop μ-loop
+same-length-12 c = c .before .before .before .before .before .before .before .before .before .before .before .read-wire .kept .1 .1 .1 .1 .1 .1 .1 .0 ∙ c .before .before .before .before .before .before .before .before .before .before .before .before .before .before .before .before .before .before .loop .inv .2 ∙ c .before .before .before .before .before .before .before .before .before .before .before .before .before .before .before .before .before .before .before .before .before .clear .kept .0
+
+returns-3 : tie.Need-returns-3 Inv-loop μ-loop
+returns-3 c = so-far-refused (c .before .before .before .before .before .before .before .before .before .before .before .before .before .before .before .before .before .before .loop .inv .3) _ _ (c .before .passed .given .0 .0) (omega (arith, c .before .before .before .before .before .before .before .before .before .before .before .before .before .before .before .before .before .before .loop .inv .0, c .before .before .before .before .before .before .before .before .before .before .before .before .before .before .before .before .if2 .left)) (c .before .before .before .before .before .before .before .before .before .before .before .before .before .before .before .before .before .if1 .left) (rw (c .before .passed .given .1) at (c .before .before .before .before .before .before .before .before .before .before .before .read-wire .ensures))
+
+pub read-wires-spec : {M : Type 1} → statement M
+read-wires-spec = tie.close (tie.spec Inv-loop μ-loop clear-requires loop-holds read-wire-requires enum-known-passed enum-known-passed-2 add-wires loop-less loop-again same-length same-length-2 same-length-3 same-length-4 returns same-length-5 same-length-6 same-length-7 same-length-8 returns-2 same-length-9 same-length-10 same-length-11 same-length-12 returns-3)

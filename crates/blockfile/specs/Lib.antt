@@ -1,0 +1,5 @@
+pub mod Held
+pub mod Kinds
+pub mod Reads
+pub mod Seen
+pub mod Shape
