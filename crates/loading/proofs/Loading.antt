@@ -1,0 +1,99 @@
+-- What reading a file and judging its network come to: a well-formed block in the arrays with an order of its gates, or the first refusal of 1 to 9.
+-- Assumes nothing.
+use mathlib.Core.Path.{_≡_, refl, sym, _∙_, subst, ap}
+use mathlib.Core.List.{List}
+use Prim.Native.Nat.{ℕ, _-_, _≤_, _<_}
+use native.Mathlib.Omega.{arith}
+use lib.ListN.{length, getD}
+use Rattle.lists.proofs.Over.{length-build, getD-build}
+use Rattle.model.specs.declared.Refusal.{Refusal}
+use Rattle.model.specs.Block.{Wire, Block, gate-count, first, last}
+use Rattle.model.specs.Arrays.{wire-at, gate-at}
+use Rattle.model.specs.File.{read-block}
+use Rattle.model.specs.Refusal.{IllFormed, unread, loop, ends}
+use Rattle.model.proofs.Limited.{BlockLimits, read-limits}
+use Rattle.blockfile.specs.declared.read.BlockRead.the-variants as Whole
+use Rattle.blockfile.specs.Held.{GateArrays, WireArrays, WireRoom}
+use Rattle.blockfile.specs.Reads.{block-passing}
+use Rattle.network.specs.declared.Network.{Network}
+use Rattle.network.specs.declared.Network.the-variants.{Sound, Loop, Ends}
+use Rattle.network.specs.Wires.{Lent, Wired, InArrays, EndsAt}
+use Rattle.network.specs.Order.{Order}
+use Rattle.network.specs.Judged.{Judged}
+use Rattle.network.proofs.Wires.{wired-joined}
+use Rattle.loading.specs.Loads.{block-held, loaded-as, number-of, place-of, Loads}
+
+-- a file that was not read
+pub not-read : (file : List ℕ) (x : Refusal) (G : GateArrays) (W : WireArrays)
+    → block-passing file (Whole.Refused x) G W ≡ read-block file
+    → IllFormed file (number-of x) (place-of x)
+not-read file x G W e = unread (sym e)
+
+-- the room for wires is kept
+pub room-kept : {W Y : WireArrays} → WireRoom W → length (Y .sources) ≡ length (W .sources) → length (Y .targets) ≡ length (W .targets) → length (Y .delays) ≡ length (W .delays) → WireRoom Y
+room-kept room s t d =
+    record { sources = omega (arith, room .sources); targets = omega (arith, room .targets); delays = omega (arith, room .delays) }
+
+-- an order for another relation that the wires make true
+order-for : {E F : ℕ → ℕ → Type 0} {k n : ℕ} {order : List ℕ} → k ≡ n → ((a b : ℕ) → F a b → E a b) → Order E k order → Order F n order
+order-for {E} {F} {k} {n} {order} e leads o =
+    subst (λ (x : ℕ). Order F x order) e
+    (record {
+      place = o .place;
+      names-gate = o .names-gate;
+      place-of = o .place-of;
+      has-place = o .has-place;
+      stands-there = o .stands-there;
+      forward = λ (a b : ℕ) (w : F a b). o .forward a b (leads a b w);
+    })
+
+module _ (file : List ℕ) (n m arrival deadline activity : ℕ) (G : GateArrays) (W : WireArrays) (e : block-passing file (Whole.Read n m arrival deadline activity) G W ≡ read-block file) where
+  abbrev pub the-block : Block
+  the-block = block-held n m arrival deadline activity G W
+
+  pub gates-are : gate-count the-block ≡ n
+  gates-are = length-build n (gate-at (G .delays) (G .activities) (G .counts) (G .step-widths) (G .drops))
+
+  pub wires-are : length (the-block .wires) ≡ m
+  wires-are = length-build m (wire-at (W .sources) (W .targets) (W .delays))
+
+  pub limits : BlockLimits the-block
+  limits = read-limits file (sym e)
+
+  -- a wire's gates are below n
+  ends-below : (i : ℕ) → i < m → (getD (W .sources) i 0 < n) × (getD (W .targets) i 0 < n)
+  ends-below i h =
+      let d = wire-at (W .sources) (W .targets) (W .delays) 0 in
+      let is = getD-build m (wire-at (W .sources) (W .targets) (W .delays)) i d h in
+      let l = limits .wire-limits i d (rw wires-are h) in (
+        rw gates-are at (subst (λ (w : Wire). w .source < gate-count the-block) is (l .source-below)),
+        rw gates-are at (subst (λ (w : Wire). w .target < gate-count the-block) is (l .target-below)),
+      )
+
+  pub lent : WireRoom W → Lent n m (W .sources) (W .targets)
+  lent room =
+      record {
+        gates = rw gates-are at (limits .gates-most);
+        wires = rw wires-are at (limits .wires-most);
+        sources-long = omega (arith, room .sources, rw wires-are at (limits .wires-most));
+        targets-long = omega (arith, room .targets, rw wires-are at (limits .wires-most));
+        source-is-gate = λ (i : ℕ) (h : i < m). ends-below i h .0;
+        target-is-gate = λ (i : ℕ) (h : i < m). ends-below i h .1;
+      }
+
+  pub some-gate : 1 ≤ n
+  some-gate = rw gates-are at (limits .some-gate)
+
+  pub in-arrays : InArrays the-block n m (W .sources) (W .targets)
+  in-arrays = record { delays = W .delays; gates = gates-are; wires = refl }
+
+  pub ends-at : EndsAt the-block 0 (n - 1)
+  ends-at = record { from = refl; to = ap (λ (k : ℕ). k - 1) (sym gates-are) }
+
+  pub loaded : (order : List ℕ) (net : Network) → Judged the-block order net → Loads file (loaded-as n m arrival deadline activity net) G W order
+  loaded order Sound j = (
+    record { end = length file; reads = sym e; network = j .0 },
+    order-for gates-are (wired-joined the-block n m (W .sources) (W .targets) in-arrays) (j .1),
+  )
+  loaded order (Loop g) j = loop the-block (length file) (sym e) j refl
+  loaded order (Ends g) j = ends the-block (length file) (sym e) (j .0) (j .1) refl
