@@ -9,7 +9,7 @@ use Rattle.lists.proofs.Over.{length-build, getD-build}
 use Rattle.model.specs.declared.Refusal.{Refusal}
 use Rattle.model.specs.Block.{Wire, Block, gate-count, first, last}
 use Rattle.model.specs.Arrays.{wire-at, gate-at}
-use Rattle.model.specs.File.{read-block}
+use Rattle.model.specs.File.{found, read-block}
 use Rattle.model.specs.Refusal.{IllFormed, unread, loop, ends}
 use Rattle.model.proofs.Limited.{BlockLimits, read-limits}
 use Rattle.blockfile.specs.declared.read.BlockRead.the-variants as Whole
@@ -21,6 +21,7 @@ use Rattle.network.specs.Wires.{Lent, Wired, InArrays, EndsAt}
 use Rattle.network.specs.Order.{Order}
 use Rattle.network.specs.Judged.{Judged}
 use Rattle.network.proofs.Wires.{wired-joined}
+use Rattle.loading.proofs.Held.{gates-are, in-arrays}
 use Rattle.loading.specs.Loads.{block-held, loaded-as, number-of, place-of, Loads}
 
 -- a file that was not read
@@ -51,49 +52,13 @@ module _ (file : List ℕ) (n m arrival deadline activity : ℕ) (G : GateArrays
   abbrev pub the-block : Block
   the-block = block-held n m arrival deadline activity G W
 
-  pub gates-are : gate-count the-block ≡ n
-  gates-are = length-build n (gate-at (G .delays) (G .activities) (G .counts) (G .step-widths) (G .drops))
-
-  pub wires-are : length (the-block .wires) ≡ m
-  wires-are = length-build m (wire-at (W .sources) (W .targets) (W .delays))
-
-  pub limits : BlockLimits the-block
-  limits = read-limits file (sym e)
-
-  -- a wire's gates are below n
-  ends-below : (i : ℕ) → i < m → (getD (W .sources) i 0 < n) × (getD (W .targets) i 0 < n)
-  ends-below i h =
-      let d = wire-at (W .sources) (W .targets) (W .delays) 0 in
-      let is = getD-build m (wire-at (W .sources) (W .targets) (W .delays)) i d h in
-      let l = limits .wire-limits i d (rw wires-are h) in (
-        rw gates-are at (subst (λ (w : Wire). w .source < gate-count the-block) is (l .source-below)),
-        rw gates-are at (subst (λ (w : Wire). w .target < gate-count the-block) is (l .target-below)),
-      )
-
-  pub lent : WireRoom W → Lent n m (W .sources) (W .targets)
-  lent room =
-      record {
-        gates = rw gates-are at (limits .gates-most);
-        wires = rw wires-are at (limits .wires-most);
-        sources-long = omega (arith, room .sources, rw wires-are at (limits .wires-most));
-        targets-long = omega (arith, room .targets, rw wires-are at (limits .wires-most));
-        source-is-gate = λ (i : ℕ) (h : i < m). ends-below i h .0;
-        target-is-gate = λ (i : ℕ) (h : i < m). ends-below i h .1;
-      }
-
-  pub some-gate : 1 ≤ n
-  some-gate = rw gates-are at (limits .some-gate)
-
-  pub in-arrays : InArrays the-block n m (W .sources) (W .targets)
-  in-arrays = record { delays = W .delays; gates = gates-are; wires = refl }
-
-  pub ends-at : EndsAt the-block 0 (n - 1)
-  ends-at = record { from = refl; to = ap (λ (k : ℕ). k - 1) (sym gates-are) }
+  pub read-as : read-block file ≡ found the-block (length file)
+  read-as = sym e
 
   pub loaded : (order : List ℕ) (net : Network) → Judged the-block order net → Loads file (loaded-as n m arrival deadline activity net) G W order
   loaded order Sound j = (
     record { end = length file; reads = sym e; network = j .0 },
-    order-for gates-are (wired-joined the-block n m (W .sources) (W .targets) in-arrays) (j .1),
+    order-for (gates-are file n m arrival deadline activity G W (length file) read-as) (wired-joined the-block n m (W .sources) (W .targets) (in-arrays file n m arrival deadline activity G W (length file) read-as)) (j .1),
   )
   loaded order (Loop g) j = loop the-block (length file) (sym e) j refl
   loaded order (Ends g) j = ends the-block (length file) (sym e) (j .0) (j .1) refl

@@ -8,3 +8,4 @@ pub mod Wires
 pub mod Misplaced
 pub mod Answers
 pub mod Judgement
+pub mod OrderOrLoop

@@ -93,7 +93,7 @@ module _ (B : Block) (n m : ℕ) (sources targets : List ℕ) (I : InArrays B n 
   is-out : (g b : ℕ) → Joined (B .wires) g b → Among sources m g
   is-out g b j = let w = joined-wired B n m sources targets I g b j in record { place = w .place; below = w .below; key = w .source }
 
-  pub fault-gate : (g : ℕ) → EndFault B g → g < n
+  fault-gate : (g : ℕ) → EndFault B g → g < n
   fault-gate g (into-first a e j) = joined-gates a g j .1
   fault-gate g (none-in h d none) = let e = I .gates in omega arith
   fault-gate g (out-of-last b e j) = joined-gates g b j .0
@@ -124,12 +124,12 @@ module _ (B : Block) (n m : ℕ) (sources targets : List ℕ) (I : InArrays B n 
     fault-faulty g h (none-out l d none) =
         inr (says-missing (Among sources m) n outs Out g b h (λ e. d (e ∙ E .to)) (λ w. let j = has-out g w in none (j .0) (j .1)))
 
-    pub first-fault : (r : ℕ) → First (Faulty a b ins outs) n r → First (EndFault B) n r
+    first-fault : (r : ℕ) → First (Faulty a b ins outs) n r → First (EndFault B) n r
     first-fault = first-same (Faulty a b ins outs) (EndFault B) n faulty-fault fault-faulty
 
-  -- the search's number as the answer
-  pub fault-found : (r : ℕ) → First (EndFault B) n r → r < n → FaultFound B (At r)
-  fault-found r F h = record { holds = F .found h; none-below = F .none-below }
+    -- the search's number as the answer
+    pub fault-found : (r : ℕ) → First (Faulty a b ins outs) n r → r < n → FaultFound B (At r)
+    fault-found r F h = let G = first-fault r F in record { holds = G .found h; none-below = G .none-below }
 
-  pub no-fault : (r : ℕ) → First (EndFault B) n r → n ≤ r → FaultFound B Nowhere
-  no-fault r F h = λ g x. let l = fault-gate g x in F .none-below g (omega arith) x
+    pub no-fault : (r : ℕ) → First (Faulty a b ins outs) n r → n ≤ r → FaultFound B Nowhere
+    no-fault r F h = λ g x. let l = fault-gate g x in first-fault r F .none-below g (omega arith) x

@@ -10,7 +10,7 @@ use native.Mathlib.Decide.{ℕ-discrete, decLt, decLe}
 use lib.ListN.{length, getD, set}
 use lib.Seq.{getD-set-same, getD-set-other}
 use Rattle.network.specs.Marks.{Marks}
-use Rattle.network.specs.Order.{Order, Placed, Waits, Visit, placed-before, waits, placed-now, SameBeyond, Advanced}
+use Rattle.network.specs.Order.{Order, Placed, Numbered, Waits, Visit, placed-before, waits, placed-now, SameBeyond, Advanced}
 use Rattle.network.proofs.Reach.{Reach}
 use Rattle.network.proofs.Loop.{loop-in}
 use Rattle.network.proofs.Pigeonhole.{pigeonhole, room-left}
@@ -272,3 +272,28 @@ module _ (E : ℕ → ℕ → Type 0) (n : ℕ) (joins-gates : (a b : ℕ) → E
         fed = λ g s. let w = stuck g (s .0) (s .1) in (w .source, (joins-gates (w .source) g (w .wire) .0, w .unplaced), w .wire);
       })
       (u .0) (u .1)
+
+-- What holds of `place` and `order` whatever the wires.
+pub placed-numbered : {E : ℕ → ℕ → Type 0} {n : ℕ} {place order : List ℕ} {count : ℕ} → Placed E n place order count → Numbered n place order count
+placed-numbered P =
+    record {
+      within = P .within;
+      names-gate = P .names-gate;
+      place-of = P .place-of;
+      has-place = P .has-place;
+      stands-there = P .stands-there;
+      forward = λ a b e. absurd e;
+    }
+
+module _ (n : ℕ) (place order : List ℕ) (count : ℕ) (N : Numbered n place order count) where
+  pub room-numbered : (g : ℕ) → g < n → n ≤ getD place g 0 → count < n
+  room-numbered = room (λ (a b : ℕ). ⊥) n (λ a b e. absurd e) place order count N
+
+  pub visit-numbered : {waiting : List ℕ} (g : ℕ) → g < n → g < length place → n ≤ length order
+      → {place⁺ order⁺ : List ℕ} {count⁺ : ℕ} → Visit n g waiting place order count place⁺ order⁺ count⁺
+      → Numbered n place⁺ order⁺ count⁺
+  visit-numbered g gate long fits (placed-before l) = N
+  visit-numbered g gate long fits (waits w) = N
+  visit-numbered g gate long fits (placed-now u z) =
+      let r = room-numbered g gate u in
+      placed-next (λ (a b : ℕ). ⊥) n (λ a b e. absurd e) place order count N g gate u long (omega arith) (λ a e. absurd e)

@@ -56,7 +56,10 @@ module _ (square : List ℕ) (a b : ℕ) (long : pair-place a b < length square)
   paired-other x y d = getD-set-other square (pair-place a b) (pair-place x y) 1 0 d
 
   kept : (x y : ℕ) → Dec (pair-place x y ≡ pair-place a b) → Paired square x y → Paired (set square (pair-place a b) 1) x y
-  kept x y (yes e) p z = let q = getD-set-same square (pair-place a b) 1 0 long in let r : getD (set square (pair-place a b) 1) (pair-place x y) 0 ≡ 1 = ap (λ (i : ℕ). getD (set square (pair-place a b) 1) i 0) e ∙ q in omega arith
+  kept x y (yes e) p z =
+      let q = getD-set-same square (pair-place a b) 1 0 long in
+      let r : getD (set square (pair-place a b) 1) (pair-place x y) 0 ≡ 1 = ap (λ (i : ℕ). getD (set square (pair-place a b) 1) i 0) e ∙ q in
+      omega arith
   kept x y (no d) p z = p (sym (paired-other x y d) ∙ z)
 
   -- a mark more takes none away

@@ -28,6 +28,22 @@ wired-gates L a b w =
     let f = w .target in
     (omega arith, omega arith)
 
+-- wires that join gates below n join gates below any greater limit
+pub lent-all : {n m : ℕ} {sources targets : List ℕ} → Lent n m sources targets → Lent max-gates m sources targets
+lent-all L =
+    let few = L .gates in
+    record {
+      gates = omega arith;
+      wires = L .wires;
+      sources-long = L .sources-long;
+      targets-long = L .targets-long;
+      source-is-gate = λ i h. let l = L .source-is-gate i h in omega arith;
+      target-is-gate = λ i h. let l = L .target-is-gate i h in omega arith;
+    }
+
+pub pairs-fewer : {E : ℕ → ℕ → Type 0} {n : ℕ} {square : List ℕ} → n ≤ max-gates → PairMarks E max-gates square → PairMarks E n square
+pairs-fewer few M = record { right = λ a b h l. M .right a b (omega arith) (omega arith); whole = λ a b h l. M .whole a b (omega arith) (omega arith) }
+
 module _ (sources targets : List ℕ) where
   pub wired-none : (a b : ℕ) → ¬ (Wired 0 sources targets a b)
   wired-none a b w = not-suc-le-zero (w .below)

@@ -4,6 +4,8 @@ use mathlib.Core.Logic.{_≢_}
 use mathlib.Core.List.{List}
 use Prim.Native.Nat.{ℕ, _+_, _≤_, _<_}
 use lib.ListN.{getD, set}
+use Rattle.network.specs.Wires.{Lent, Wired}
+use Rattle.network.specs.Marks.{Marks}
 
 -- The first n elements of `order` name each gate once, and every wire leads from a smaller place to a greater: `place` says where a gate stands. `E a b`: a wire leads from a to b.
 pub record Order (E : ℕ → ℕ → Type 0) (n : ℕ) (order : List ℕ) : Type 0 where
@@ -22,6 +24,10 @@ pub record Placed (E : ℕ → ℕ → Type 0) (n : ℕ) (place order : List ℕ
   pub has-place : (g : ℕ) → g < n → getD place g 0 < n → getD place g 0 < count
   pub stands-there : (g : ℕ) → g < n → getD place g 0 < n → getD order (getD place g 0) 0 ≡ g
   pub forward : (a b : ℕ) → E a b → getD place b 0 < n → getD place a 0 < getD place b 0
+
+-- `place` and `order` fit each other, whatever the wires.
+abbrev pub Numbered : ℕ → List ℕ → List ℕ → ℕ → Type 0
+Numbered n = Placed (λ (a b : ℕ). ⊥) n
 
 -- A wire into gate g comes from a gate that is not placed.
 pub record Waits (E : ℕ → ℕ → Type 0) (n : ℕ) (place : List ℕ) (g : ℕ) : Type 0 where
@@ -52,3 +58,11 @@ pub record Advanced (E : ℕ → ℕ → Type 0) (n : ℕ) (order₀ : List ℕ)
   pub grown : count₀ ≤ count
   pub stuck : count ≡ count₀ → (g : ℕ) → g < n → n ≤ getD place g 0 → Waits E n place g
   pub beyond : SameBeyond n order₀ order
+
+-- A round, whatever the wires: where `waiting` marks the gates that wait, and `count₀` gates are placed along the wires.
+abbrev pub RoundOf : ℕ → List ℕ → List ℕ → List ℕ → ℕ → List ℕ → List ℕ → ℕ → Type 0
+RoundOf n waiting place₀ order₀ count₀ place order count =
+    (m : ℕ) (sources targets : List ℕ) → Lent n m sources targets
+    → Marks (Waits (Wired m sources targets) n place₀) n waiting
+    → Placed (Wired m sources targets) n place₀ order₀ count₀
+    → Advanced (Wired m sources targets) n order₀ count₀ place order count

@@ -57,8 +57,8 @@ pub fn lowest_at_fault(
 {
     let mut ins = [0u8; 64];
     let mut outs = [0u8; 64];
-    mark_keys(n, m, targets, &mut ins);
-    mark_keys(n, m, sources, &mut outs);
+    mark_keys(m, targets, &mut ins);
+    mark_keys(m, sources, &mut outs);
     let gate = first_faulty(n, first, last, &ins, &outs);
     if gate < n {
         return Faults::At { gate: gate };

@@ -13,11 +13,11 @@ ghost use Rattle.network.specs.Marks.{First};
 ghost use Rattle.network.specs.Square.{square-size, Paired, PairMarks, Closing, Closed, PairVisit, SelfVisit};
 
 // Marks each pair of gates that a wire joins; no mark may be set before.
-fn mark_pairs(n: usize, m: usize, sources: &[u32], targets: &[u32], square: &mut [u8])
-    requires { ⌜ Lent n m (now sources) (now targets) ⌝ }
+fn mark_pairs(m: usize, sources: &[u32], targets: &[u32], square: &mut [u8])
+    requires { ⌜ Lent max-gates m (now sources) (now targets) ⌝ }
     requires { ⌜ square-size ≤ length (now square) ⌝ }
     requires { ⌜ ((i : ℕ) → i < square-size → getD (now square) i 0 ≡ 0) ⌝ }
-    ensures { λ r. ⌜ PairMarks (Wired m (now (sources .entry)) (now (targets .entry))) n (now (square .exit)) ⌝ }
+    ensures { λ r. ⌜ PairMarks (Wired m (now (sources .entry)) (now (targets .entry))) max-gates (now (square .exit)) ⌝ }
 {
     let mut i = 0;
     while i < m {
@@ -126,7 +126,7 @@ pub fn lowest_on_loop(n: usize, m: usize, sources: &[u32], targets: &[u32]) -> u
     ensures { λ r. ⌜ ((B : Block) → InArrays B n m (now (sources .entry)) (now (targets .entry)) → First (OnLoop B) n r) ⌝ }
 {
     let mut square = [0u8; 4096];
-    mark_pairs(n, m, sources, targets, &mut square);
+    mark_pairs(m, sources, targets, &mut square);
     close_square(n, &mut square);
     first_paired(n, &square)
 }

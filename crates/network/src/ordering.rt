@@ -8,7 +8,7 @@ ghost use Rattle.model.specs.Limits.{max-gates};
 ghost use Rattle.model.specs.Block.{Block};
 ghost use Rattle.network.specs.Wires.{Lent, Wired, InArrays};
 ghost use Rattle.network.specs.Marks.{Marks};
-ghost use Rattle.network.specs.Order.{Placed, Waits, WireVisit, Visit, SameBeyond, Advanced};
+ghost use Rattle.network.specs.Order.{Placed, Numbered, Waits, WireVisit, Visit, SameBeyond, Advanced, RoundOf};
 ghost use Rattle.network.specs.Judged.{OrderFound};
 
 // Marks gate `target` if gate `source` is not placed.
@@ -71,19 +71,15 @@ fn visit_gate(
 // Places every gate that is neither placed nor marked as waiting; answers how many gates are placed.
 fn place_free(
     n: usize,
-    m: usize,
-    sources: &[u32],
-    targets: &[u32],
     waiting: &[u8],
     place: &mut [u32],
     order: &mut [u32],
     placed: usize,
 ) -> usize
-    requires { ⌜ Lent n m (now sources) (now targets) ⌝ }
+    requires { ⌜ n ≤ max-gates ⌝ }
     requires { ⌜ (n ≤ length (now waiting)) × (n ≤ length (now place)) × (n ≤ length (now order)) ⌝ }
-    requires { ⌜ Marks (Waits (Wired m (now sources) (now targets)) n (now place)) n (now waiting) ⌝ }
-    requires { ⌜ Placed (Wired m (now sources) (now targets)) n (now place) (now order) placed ⌝ }
-    ensures { λ r. ⌜ Advanced (Wired m (now (sources .entry)) (now (targets .entry))) n (now (order .entry)) placed (now (place .exit)) (now (order .exit)) r ⌝ }
+    requires { ⌜ Numbered n (now place) (now order) placed ⌝ }
+    ensures { λ r. ⌜ RoundOf n (now (waiting .entry)) (now (place .entry)) (now (order .entry)) placed (now (place .exit)) (now (order .exit)) r ⌝ }
 {
     let mut count = placed;
     let mut g = 0;
@@ -111,7 +107,7 @@ fn place_round(
 {
     let mut waiting = [0u8; 64];
     mark_waiting(n, m, sources, targets, place, &mut waiting);
-    place_free(n, m, sources, targets, &waiting, place, order, placed)
+    place_free(n, &waiting, place, order, placed)
 }
 
 // Whether the gates have an order along the wires, which the first n elements of `order` then hold; if not, some gate reaches itself.

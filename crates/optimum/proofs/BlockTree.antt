@@ -32,10 +32,7 @@ module _ (B : Block) (P : Shape) (whole : Whole B P) (join : WiresJoinGates B) w
   e = ends P (first B) (last B) (whole .part)
 
   two : first B < last B
-  two = pos (e .apart)
-    where
-      pos : ¬ (0 ≡ gate-count B - 1) → 0 < gate-count B - 1
-      pos d = omega arith
+  two = let d = e .apart in omega arith
 
   in-whole : (g : ℕ) (C : Type 0) → 0 < count (whole-tree B P) g → (g ≡ first B → C) → (Inside P g → C) → (g ≡ last B → C) → C
   in-whole g C l on-first on-inside on-last =

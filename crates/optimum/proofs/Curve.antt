@@ -9,6 +9,7 @@ use native.Mathlib.Decide.{decLe}
 use native.Mathlib.Omega.{arith}
 use lib.ListN.{length, getD}
 use Rattle.lists.specs.Sum.{sum}
+use Rattle.lists.proofs.Sum.{sum-le}
 use Rattle.model.specs.Block.{Block, gate, gate-count}
 use Rattle.model.specs.Gain.{saving}
 use Rattle.model.specs.InTime.{drawn, Within}
@@ -22,7 +23,7 @@ use Rattle.optimum.specs.Runs.{runs, runs-list}
 use Rattle.optimum.specs.BlockTree.{IsTree, start-of, increases, step-count, gains-of, pairs-of}
 use Rattle.optimum.proofs.Handout.{plain}
 use Rattle.optimum.proofs.Increases.{Placed, give-frame, read-give, length-sized, read-sized}
-use Rattle.optimum.proofs.Sums.{sum-at-most, across-gates}
+use Rattle.optimum.proofs.Sums.{across-gates}
 use Rattle.optimum.proofs.Gates.{gate-heads, gate-left, gate-left-at-most, gate-steps}
 use Rattle.optimum.proofs.Runs.{runs-sink, runs-few, ticks-earn, joined-counts, runs-first, joined-first, first-is-most, joined-falls, joined-few}
 use Rattle.optimum.proofs.Within.{saving-earned, start-is-start, best-after}
@@ -55,7 +56,7 @@ module _ (B : Block) (t : Tree) (tree : IsTree B t) (descending : (g : ℕ) → 
   unfolding step-count
   few-steps y =
       le-trans (le-of-eq (across-gates (gate-left B) (gate-count B) t y (tree .below) (tree .all)))
-      (sum-at-most (gate-count B) _ _ (λ g l. gate-left-at-most B g (getD y g 0)))
+      (sum-le (gate-count B) _ _ (λ g l. gate-left-at-most B g (getD y g 0)))
 
   -- the raised start
   abbrev start : List ℕ

@@ -9,9 +9,10 @@ use native.Mathlib.Decide.{decLt}
 use native.Mathlib.Omega.{arith}
 use lib.ListN.{length, getD}
 use Rattle.lists.specs.Sum.{sum}
+use Rattle.lists.proofs.Sum.{sum-same}
 use Rattle.model.specs.Ties.{Before, less, same}
 use Rattle.optimum.specs.Head.{rank}
-use Rattle.optimum.proofs.Sums.{sum-same, sum-front}
+use Rattle.optimum.proofs.Sums.{sum-front}
 
 module _ (B : ℕ) where
   -- the number that the list writes

@@ -33,9 +33,7 @@ module _ (n : ℕ) (h : ℕ → ℕ → Head) (heads : Heads n h) where
       → worth (plain h) t (give h t w s) ≡ worth (plain h) t s + w * head h t s .gain
   give-adds (wire l) w s = λ l pos. absurd (omega arith)
   give-adds (series P m Q) w s =
-      let a = head h P (s .0) in
       let b = h m (s .1) in
-      let c = head h Q (s .2) in
       by-item h P m Q s
       (λ (i : Item). w ≤ item-head h P m Q s i .width → 0 < item-head h P m Q s i .gain → worth (plain h) (series P m Q) (item-given h P m Q w s i) ≡ worth (plain h) (series P m Q) s + w * item-head h P m Q s i .gain)
       (λ ab ac l pos. omega (arith, give-adds P w (s .0) l pos))

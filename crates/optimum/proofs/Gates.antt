@@ -10,9 +10,10 @@ use native.Mathlib.Omega.{arith}
 use lib.Dec.{ltb}
 use borrow.Author.Tests.{ltb-true, ltb-false, lt-ltb, le-ltb, eq-eqb, ne-eqb}
 use lib.ListN.{length}
-use Rattle.lists.specs.Sum.{total}
+use Rattle.lists.proofs.Compare.{le-or-lt}
 use Rattle.model.specs.Block.{Step, Block, gate, gate-count, widths}
 use Rattle.model.specs.Gain.{drop-of, input-activity, gain}
+use Rattle.model.proofs.Gain.{gain-beyond}
 use Rattle.optimum.specs.Head.{no-head, rank, Heads}
 use Rattle.optimum.specs.Gates.{room, first-drop, Descending, gate-head}
 use Rattle.optimum.proofs.Runs.{Steps}
@@ -60,14 +61,14 @@ goes-on (s ∷ ss) k i =
     let n : k + i - s .width ≡ k - s .width + i = omega arith in
     rw (le-ltb (k + i) (s .width) m, n) (goes-on ss (k - s .width) i r)))
 
--- a tick with a drop has room, and lies within the widths
-dropping : (ss : List Step) (k : ℕ) → 0 < drop-of ss k → (0 < room ss k) × (k < widths ss)
-unfolding drop-of room total
+-- a tick with a drop has room
+dropping : (ss : List Step) (k : ℕ) → 0 < drop-of ss k → 0 < room ss k
+unfolding drop-of room
 dropping [] k = λ p. absurd (omega arith)
 dropping (s ∷ ss) k =
-    in-step k (s .width) (0 < drop-of (s ∷ ss) k → (0 < room (s ∷ ss) k) × (k < widths (s ∷ ss)))
-    (λ l e. rw e (λ p. (omega arith, omega arith)))
-    (λ l e. rw e (λ p. let r = dropping ss (k - s .width) p in (r .0, omega arith)))
+    in-step k (s .width) (0 < drop-of (s ∷ ss) k → 0 < room (s ∷ ss) k)
+    (λ l e. rw e (λ p. omega arith))
+    (λ l e. rw e (dropping ss (k - s .width)))
 
 module _ (B : Block) where
   -- what the head of a gate is, with a gain and without
@@ -97,7 +98,11 @@ module _ (B : Block) where
 
   -- a tick that gains lies within the widths
   pub within-widths : (g k : ℕ) → 0 < gate-head B g k .gain → k < widths (gate B g .steps)
-  within-widths g k p = dropping (gate B g .steps) k (gain-drops g k (omega (arith, gate-gain g k))) .1
+  within-widths g k p = from (le-or-lt (widths (gate B g .steps)) k)
+    where
+      from : (widths (gate B g .steps) ≤ k) ⊎ (k < widths (gate B g .steps)) → k < widths (gate B g .steps)
+      from (inl l) = absurd (omega (arith, gate-gain g k, gain-beyond B g k l))
+      from (inr l) = l
 
   pub gate-heads : ((g : ℕ) → Descending (gate B g .steps)) → Heads (gate-count B) (gate-head B)
   unfolding gain
@@ -114,7 +119,7 @@ module _ (B : Block) where
         unranked = λ g k z. rw (no-gain g k (omega (arith, gate-gain g k))) refl;
         wide = λ g k p.
             let q : 0 < gain B g k = omega (arith, gate-gain g k) in
-            rw (some-gain g k q) (dropping (gate B g .steps) k (gain-drops g k q) .0);
+            rw (some-gain g k q) (dropping (gate B g .steps) k (gain-drops g k q));
         goes-on = λ g k i. along g k i (eq-zero-or-pos (gain B g k));
       }
     where
@@ -181,5 +186,5 @@ module _ (B : Block) where
         only-ends = λ g k i. left-falls (gate B g .steps) k i;
         run-ends = λ g k p.
             let q : 0 < gain B g k = omega (arith, gate-gain B g k) in
-            rw (some-gain B g k q) (room-ends (gate B g .steps) k (dropping (gate B g .steps) k (gain-drops B g k q) .0));
+            rw (some-gain B g k q) (room-ends (gate B g .steps) k (dropping (gate B g .steps) k (gain-drops B g k q)));
       }

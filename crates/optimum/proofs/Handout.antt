@@ -6,11 +6,10 @@ use Prim.Native.Nat.{ℕ, zero, suc, _+_, _-_, _≤_, _<_, max, min}
 use native.Mathlib.Nat.{zero-add, suc-add, add-assoc}
 use native.Mathlib.Numerals.{add-one}
 use native.Mathlib.Omega.{arith}
-use borrow.Author.Tests.{eq-eqb, ne-eqb}
 use Rattle.optimum.specs.Tree.{wire, series, parallel, Tree, St, next}
 use Rattle.optimum.specs.Head.{Head, Heads, Item, left, gate, right, item, leads, turn, beside, best-of}
 use Rattle.optimum.specs.Handout.{head, give, ticks}
-use Rattle.optimum.proofs.Order.{Ahead, Leads, by-turn, both, by-sides}
+use Rattle.optimum.proofs.Order.{Ahead, Leads, by-turn, both, by-sides, beside-right, beside-left, beside-both}
 
 -- plain gains: what tick k of gate g gains
 abbrev pub plain : (ℕ → ℕ → Head) → ℕ → ℕ → ℕ
@@ -53,19 +52,6 @@ turn-gate a b c w = refl
 turn-right : (a b c : Head) (w : ℕ) → turn a b (less c w) ≡ turn a b c
 unfolding turn leads
 turn-right a b c w = refl
-
--- side by side, by who has a head
-beside-right : (a b : Head) → a .gain ≡ 0 → beside a b ≡ b
-unfolding beside
-beside-right a b z = rw (eq-eqb _ _ z) refl
-
-beside-left : (a b : Head) → 0 < a .gain → b .gain ≡ 0 → beside a b ≡ a
-unfolding beside
-beside-left a b p z = rw (ne-eqb (a .gain) 0 (λ e. omega arith), eq-eqb _ _ z) refl
-
-beside-both : (a b : Head) → 0 < a .gain → 0 < b .gain → beside a b ≡ both a b
-unfolding beside
-beside-both a b p q = rw (ne-eqb (a .gain) 0 (λ e. omega arith), ne-eqb (b .gain) 0 (λ e. omega arith)) refl
 
 less-both : (a b : Head) (w : ℕ) → both (less a w) (less b w) ≡ less (both a b) w
 less-both a b w =

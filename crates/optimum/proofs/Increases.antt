@@ -9,11 +9,10 @@ use native.Mathlib.Omega.{arith}
 use lib.ListN.{length, getD, length-set, replicate, length-replicate}
 use lib.Seq.{getD-set-same, getD-set-other, ext-getD}
 use Rattle.optimum.specs.Tree.{wire, series, parallel, Tree, is, count, Once, Below, St, zeros, longest}
-use Rattle.optimum.specs.Head.{Head, Heads, Item, item}
+use Rattle.optimum.specs.Head.{Head, Item, item}
 use Rattle.optimum.specs.Handout.{head, give, ticks, raise}
 use Rattle.optimum.specs.Increases.{read, add, give-list, ticks-list, raise-list, sized}
 use Rattle.optimum.proofs.Order.{by-turn}
-use Rattle.optimum.proofs.Handout.{give-is-ticks}
 use Rattle.optimum.proofs.Count.{is-self, in-series, in-parallel}
 
 -- The list y is x but for gates of the part.
@@ -21,7 +20,7 @@ pub record Frame (t : Tree) (x y : List ℕ) : Type 0 where
   pub same-length : length y ≡ length x
   pub others : (g : ℕ) → count t g ≡ 0 → getD y g 0 ≡ getD x g 0
 
-frame-none : (t : Tree) (x : List ℕ) → Frame t x x
+pub frame-none : (t : Tree) (x : List ℕ) → Frame t x x
 frame-none t x = record { same-length = refl; others = λ g z. refl }
 
 frame-on : (t : Tree) (x y z : List ℕ) → Frame t x y → Frame t y z → Frame t x z
@@ -202,15 +201,6 @@ same-lists t x y z f e r = ext-getD 0 y z (f .same-length ∙ sym (e .same-lengt
     go : (g : ℕ) → (count t g ≡ 0) ⊎ (0 < count t g) → getD y g 0 ≡ getD z g 0
     go g (inl n) = f .others g n ∙ sym (e .others g n)
     go g (inr p) = same-read t z y r g p
-
-module _ (n : ℕ) (h : ℕ → ℕ → Head) (heads : Heads n h) where
-  -- On the list too, w ticks at once are w single ticks, while w is at most the width of the head.
-  pub give-list-is-ticks : (t : Tree) (w : ℕ) (x : List ℕ) → Once t → Placed t x → 0 < head h t (read t x) .gain
-      → suc w ≤ head h t (read t x) .width → give-list h t (suc w) x ≡ ticks-list h t (suc w) x
-  give-list-is-ticks t w x once p pos l =
-      same-lists t x _ _ (give-frame h t (suc w) x) (ticks-frame h t (suc w) x) (read-give h t (suc w) x once p
-      ∙ give-is-ticks n h heads t w (read t x) pos l
-      ∙ sym (read-ticks h t (suc w) x once p))
 
 -- no increase, read off a list of zeros
 no-increase : (n g : ℕ) → getD {A = ℕ} (replicate n 0) g 0 ≡ 0

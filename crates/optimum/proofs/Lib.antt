@@ -11,6 +11,8 @@ pub mod Earning
 pub mod Gains
 pub mod Runs
 pub mod Increases
+pub mod Loop
+pub mod Noting
 pub mod Sums
 pub mod Digits
 pub mod Ties

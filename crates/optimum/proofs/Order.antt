@@ -3,11 +3,11 @@
 use mathlib.Core.Path.{_≡_, refl}
 use mathlib.Core.Logic.{_⊎_, inl, inr}
 use mathlib.Core.Bool.{Bool, true, false, cond}
-use Prim.Native.Nat.{ℕ, _+_, _≤_, _<_, max, min}
+use Prim.Native.Nat.{_+_, _≤_, _<_, max, min}
 use native.Mathlib.Omega.{arith}
 use lib.Dec.{ltb, eqb}
-use borrow.Author.Tests.{ltb-true, ltb-false, eqb-true, eqb-false}
-use Rattle.optimum.specs.Head.{Head, leads, Item, left, gate, right, turn, beside}
+use borrow.Author.Tests.{ltb-true, ltb-false, eqb-true, eqb-false, lt-ltb, le-ltb, eq-eqb, ne-eqb}
+use Rattle.optimum.specs.Head.{Head, leads, Item, left, gate, right, turn, best-of, beside}
 
 -- a comes before b
 abbrev pub Ahead : Head → Head → Type 0
@@ -28,12 +28,6 @@ ahead-over a b c (inl g) (inr (e, r)) = inl (omega arith)
 ahead-over a b c (inr (e, r)) (inl g) = inl (omega arith)
 ahead-over a b c (inr (e, r)) (inr (e′, r′)) = inr (omega arith, omega arith)
 
-pos : {n : ℕ} → ¬ (n ≡ 0) → 0 < n
-pos d = omega arith
-
-apart : {m n : ℕ} → ¬ (m ≡ n) → m ≤ n → m < n
-apart d l = omega arith
-
 -- what the answer of `leads` says
 data Answer (a b : Head) : Bool → Type 0 where
   ahead : Ahead a b → Answer a b true
@@ -49,7 +43,7 @@ answer a b = greater (ltb (b .gain) (a .gain)) refl
 
     equal : (t : Bool) → eqb (a .gain) (b .gain) ≡ t → a .gain ≤ b .gain → Answer a b (cond t (ltb (a .rank) (b .rank)) false)
     equal true e g = smaller-rank _ refl (eqb-true _ _ e)
-    equal false e g = behind (inl (apart (eqb-false _ _ e) g))
+    equal false e g = behind (inl (omega (arith, eqb-false (a .gain) (b .gain) e)))
 
     greater : (t : Bool) → ltb (b .gain) (a .gain) ≡ t → Answer a b (cond t true (cond (eqb (a .gain) (b .gain)) (ltb (a .rank) (b .rank)) false))
     greater true e = ahead (inl (ltb-true _ _ e))
@@ -79,5 +73,52 @@ by-sides a b C on-right on-left on-both = go (eqb (a .gain) 0) (eqb (b .gain) 0)
   where
     go : (p q : Bool) → eqb (a .gain) 0 ≡ p → eqb (b .gain) 0 ≡ q → C (cond p b (cond q a (both a b)))
     go true q ea eb = on-right (eqb-true _ _ ea)
-    go false true ea eb = on-left (pos (eqb-false _ _ ea)) (eqb-true _ _ eb)
-    go false false ea eb = on-both (pos (eqb-false _ _ ea)) (pos (eqb-false _ _ eb))
+    go false true ea eb = on-left (omega (arith, eqb-false (a .gain) 0 ea)) (eqb-true _ _ eb)
+    go false false ea eb = on-both (omega (arith, eqb-false (a .gain) 0 ea)) (omega (arith, eqb-false (b .gain) 0 eb))
+
+-- the answer of `leads`, by the two gains
+pub leads-more : (a b : Head) → b .gain < a .gain → true ≡ leads a b
+unfolding leads
+leads-more a b l = rw (lt-ltb (b .gain) (a .gain) l) refl
+
+pub leads-same : (a b : Head) → a .gain ≡ b .gain → ltb (a .rank) (b .rank) ≡ leads a b
+unfolding leads
+leads-same a b e =
+    let l : a .gain ≤ b .gain = omega arith in
+    rw (le-ltb (b .gain) (a .gain) l, eq-eqb (a .gain) (b .gain) e) refl
+
+pub leads-less : (a b : Head) → a .gain < b .gain → false ≡ leads a b
+unfolding leads
+leads-less a b l =
+    let m : a .gain ≤ b .gain = omega arith in
+    rw (le-ltb (b .gain) (a .gain) m, ne-eqb (a .gain) (b .gain) (λ e. omega arith)) refl
+
+-- the best of three heads, by the answers of `leads`
+pub best-is-last : (a b c : Head) → leads b a ≡ true → leads c b ≡ true → c ≡ best-of a b c
+unfolding turn
+best-is-last a b c e k = rw (e, k) refl
+
+pub best-is-middle : (a b c : Head) → leads b a ≡ true → leads c b ≡ false → b ≡ best-of a b c
+unfolding turn
+best-is-middle a b c e k = rw (e, k) refl
+
+pub last-passes : (a b c : Head) → leads b a ≡ false → leads c a ≡ true → c ≡ best-of a b c
+unfolding turn
+last-passes a b c e k = rw (e, k) refl
+
+pub best-is-first : (a b c : Head) → leads b a ≡ false → leads c a ≡ false → a ≡ best-of a b c
+unfolding turn
+best-is-first a b c e k = rw (e, k) refl
+
+-- side by side, by who has a head
+pub beside-right : (a b : Head) → a .gain ≡ 0 → beside a b ≡ b
+unfolding beside
+beside-right a b z = rw (eq-eqb _ _ z) refl
+
+pub beside-left : (a b : Head) → 0 < a .gain → b .gain ≡ 0 → beside a b ≡ a
+unfolding beside
+beside-left a b p z = rw (ne-eqb (a .gain) 0 (λ e. omega arith), eq-eqb _ _ z) refl
+
+pub beside-both : (a b : Head) → 0 < a .gain → 0 < b .gain → beside a b ≡ both a b
+unfolding beside
+beside-both a b p q = rw (ne-eqb (a .gain) 0 (λ e. omega arith), ne-eqb (b .gain) 0 (λ e. omega arith)) refl

@@ -1,6 +1,6 @@
 -- A part lasts as long as a longest path through it: a path that enters a part leaves it by its last gate and takes at most the part's length in between, and some path takes exactly that. A path through a series part splits at the middle gate, one through a parallel part stays on its side.
 -- Assumes nothing.
-use mathlib.Core.Path.{_≡_, refl, sym, ap}
+use mathlib.Core.Path.{_≡_, refl, sym, _∙_, ap}
 use mathlib.Core.Logic.{_↔_, _⊎_, inl, inr}
 use mathlib.Core.Bool.{Bool, true, false, cond}
 use mathlib.Core.List.{List, [], _∷_, List·Memᴰ·head, List·Memᴰ·tail}
@@ -16,7 +16,7 @@ use Rattle.model.specs.Path.{Path, stay, go, Longest}
 use Rattle.model.specs.Part.{Shape, wire, series, parallel, Inside, HasWire, Part}
 use Rattle.optimum.specs.Tree.{longest}
 use Rattle.optimum.specs.Increases.{read}
-use Rattle.optimum.specs.BlockTree.{wire-delay, tree-of}
+use Rattle.optimum.specs.BlockTree.{wire-delay, tree-of, NoneTwice}
 use Rattle.optimum.proofs.Parts.{ends, source-gate, none-from-last, Closed, closed-left, closed-right, closed-one, closed-other}
 
 -- the slowest wire, one wire more: a statement holds if it holds with the wire counted, and without
@@ -71,6 +71,18 @@ delay-stands ws a b (w, m) = from (delay-found ws a b)
     from (inl z) =
         let k : w ≡ wire-delay ws a b = omega (arith, delay-most ws a b w m) in
         rw k at m
+
+-- where no wire stands twice, it is the delay of the wire
+wire-alone : (ws : List Wire) (a b w u : ℕ) → NoneTwice ws → Stands ws a b w → Stands ws a b u → w ≡ u
+wire-alone (v ∷ ws) a b w u n (List·Memᴰ·head e) (List·Memᴰ·head k) = ap (λ (x : Wire). x .delay) (e ∙ sym k)
+wire-alone (v ∷ ws) a b w u n (List·Memᴰ·head e) (List·Memᴰ·tail k) =
+    absurd (n .0 (u, rw (ap (λ (x : Wire). x .source) e, ap (λ (x : Wire). x .target) e) at k))
+wire-alone (v ∷ ws) a b w u n (List·Memᴰ·tail m) (List·Memᴰ·head e) =
+    absurd (n .0 (w, rw (ap (λ (x : Wire). x .source) e, ap (λ (x : Wire). x .target) e) at m))
+wire-alone (v ∷ ws) a b w u n (List·Memᴰ·tail m) (List·Memᴰ·tail k) = wire-alone ws a b w u (n .1) m k
+
+pub delay-is : (ws : List Wire) (a b w : ℕ) → NoneTwice ws → Stands ws a b w → wire-delay ws a b ≡ w
+delay-is ws a b w n m = wire-alone ws a b (wire-delay ws a b) w n (delay-stands ws a b (w, m)) m
 
 module _ (ws : List Wire) (e : ℕ → ℕ) where
   -- how a path goes on: it ends here, or it takes a wire

@@ -11,6 +11,7 @@ use native.Mathlib.Omega.{arith}
 use lib.Dec.{eqb}
 use borrow.Author.Tests.{ne-eqb}
 use Rattle.lists.specs.Sum.{sum, total}
+use Rattle.lists.proofs.Sum.{sum-same, sum-le}
 use Rattle.model.specs.Block.{Block, Wire, gate, gate-count, first, last, Joined}
 use Rattle.model.specs.Gain.{brings, input-activity, gain}
 use Rattle.model.specs.Part.{Shape, wire, series, parallel, Inside, HasWire, Part, Whole, SeriesParallel, lone, built}
@@ -24,7 +25,7 @@ use Rattle.optimum.proofs.Handout.{plain, head-gain}
 use Rattle.optimum.proofs.Gates.{gate-gain}
 use Rattle.optimum.proofs.BlockTree.{whole-is-tree}
 use Rattle.optimum.proofs.Parts.{Ends, ends, source-gate, none-to-first, inside-stands, Closed, closed-left, closed-right, closed-one, closed-other}
-use Rattle.optimum.proofs.Sums.{sum-same, sum-add, sum-constant, sum-at-most, sum-one, sum-none, across-count}
+use Rattle.optimum.proofs.Sums.{sum-add, sum-constant, sum-one, sum-none, across-count}
 
 -- the wires into gate g
 into : List Wire → ℕ → ℕ
@@ -105,7 +106,7 @@ into-few ws N P a m sources once la below from =
     omega (
       arith,
       into-by-source ws N m sources,
-      sum-at-most N (λ (u : ℕ). between ws u m) (λ (u : ℕ). is a u * 1 + count T u) (λ u l. at-most u (eq-zero-or-pos (between ws u m))),
+      sum-le N (λ (u : ℕ). between ws u m) (λ (u : ℕ). is a u * 1 + count T u) (λ u l. at-most u (eq-zero-or-pos (between ws u m))),
       sum-add N (λ (u : ℕ). is a u * 1) (count T),
       sum-one a N (λ (u : ℕ). 1) la,
       size-counts N T below,

@@ -5,13 +5,15 @@ use mathlib.Core.Logic.{_⊎_, inl, inr}
 use mathlib.Core.Bool.{Bool, true, false, cond}
 use mathlib.Core.List.{List, [], _∷_, List·Memᴰ, List·Memᴰ·head, List·Memᴰ·tail}
 use Prim.Native.Nat.{ℕ, zero, suc, _+_, _*_, _-_, _≤_, _<_, min}
-use native.Mathlib.Nat.{add-mul, zero-mul, min-eq-left, min-eq-right, le-refl, le-trans, eq-zero-or-pos}
+use native.Mathlib.Nat.{add-mul, zero-mul, le-refl, le-trans, eq-zero-or-pos}
 use native.Mathlib.Decide.{decLe}
 use native.Mathlib.Omega.{arith}
 use lib.Dec.{eqb}
+use Rattle.lists.proofs.Compare.{le-or-lt}
 use borrow.Author.Tests.{eqb-true, eqb-false}
 use lib.ListN.{length}
 use Rattle.model.specs.Curve.{Pair, first-gain, Falling, count-off}
+use Rattle.model.proofs.Curve.{count-off-within, count-off-beyond}
 use Rattle.optimum.specs.Tree.{wire, series, parallel, Tree, St, across, worth}
 use Rattle.optimum.specs.Head.{Head, Heads, Item}
 use Rattle.optimum.specs.Handout.{head, give, ticks}
@@ -24,15 +26,6 @@ use Rattle.optimum.proofs.Gains.{gain-falls, give-adds}
 abbrev pub Sinking : List Pair → Type 0
 Sinking [] = Unit {0}
 Sinking (p ∷ ps) = (1 ≤ p .width) × (0 < p .gain) × (first-gain ps ≤ p .gain) × Sinking ps
-
--- no tick earns nothing
-pub count-none : (ps : List Pair) → count-off ps 0 ≡ 0
-unfolding count-off
-count-none [] = refl
-count-none (p ∷ ps) =
-    let a : min 0 (p .width) ≡ 0 = omega arith in
-    let b : 0 - p .width ≡ 0 = omega arith in
-    rw (a, b, zero-mul) (omega (arith, count-none ps))
 
 by-onto : (p q : Pair) (qs : List Pair) (C : List Pair → Type 0)
     → (p .gain ≡ q .gain → C (record { width = p .width + q .width; gain = q .gain } ∷ qs)) → (¬ (p .gain ≡ q .gain) → C (p ∷ q ∷ qs))
@@ -79,10 +72,7 @@ onto-falls p [] w g l f = (w, g, tt)
 onto-falls p (q ∷ qs) w g l f =
     by-onto p q qs Falling
     (λ e. (omega arith, f .1, f .2))
-    (λ d. (w, strict d l, f))
-  where
-    strict : {a b : ℕ} → ¬ (a ≡ b) → b ≤ a → b < a
-    strict d l = omega arith
+    (λ d. (w, omega arith, f))
 
 -- no gain of a curve is above its first
 pub first-is-most : (ps : List Pair) (p : Pair) → Falling ps → List·Memᴰ p ps → p .gain ≤ first-gain ps
@@ -121,10 +111,7 @@ module _ (n : ℕ) (h : ℕ → ℕ → Head) (heads : Heads n h) where
     where
       from : (b : Bool) → eqb (head h t s .gain) 0 ≡ b → C (cond b [] (pair-of (head h t s) ∷ runs h t f (give h t (head h t s .width) s)))
       from true e = none (eqb-true _ _ e)
-      from false e = some (pos (eqb-false _ _ e))
-        where
-          pos : {a : ℕ} → ¬ (a ≡ 0) → 0 < a
-          pos d = omega arith
+      from false e = some (omega (arith, eqb-false (head h t s .gain) 0 e))
 
   pub runs-first : (t : Tree) (f : ℕ) (s : St t) → first-gain (runs h t f s) ≤ head h t s .gain
   unfolding runs
@@ -157,27 +144,20 @@ module _ (n : ℕ) (h : ℕ → ℕ → Head) (heads : Heads n h) where
 
   -- a run, or a part of it, and what follows
   run-then : (t : Tree) (s : St t) → 0 < head h t s .gain → (ps : List Pair) (k : ℕ)
-      → worth (plain h) t (ticks h t (k - head h t s .width) (give h t (head h t s .width) s)) ≡ worth (plain h) t (give h t (head h t s .width) s) + count-off ps (k - head h t s .width)
+      → ((j : ℕ) → worth (plain h) t (ticks h t j (give h t (head h t s .width) s)) ≡ worth (plain h) t (give h t (head h t s .width) s) + count-off ps j)
       → worth (plain h) t (ticks h t k s) ≡ worth (plain h) t s + count-off (pair-of (head h t s) ∷ ps) k
-  unfolding count-off
-  run-then t s p ps k rest = from (decLe k w)
+  run-then t s p ps k rest = from (le-or-lt k w)
     where
       w : ℕ
       w = head h t s .width
 
-      from : Dec (k ≤ w) → worth (plain h) t (ticks h t k s) ≡ worth (plain h) t s + (min k w * head h t s .gain + count-off ps (k - w))
-      from (yes l) =
-          let z : k - w ≡ 0 = omega arith in
-          rw (min-eq-left l, z, count-none ps) (omega (arith, ticks-in-run t k s p l))
-      from (no l) =
-          let m : w ≤ k = omega arith in
+      from : (k ≤ w) ⊎ (w < k) → worth (plain h) t (ticks h t k s) ≡ worth (plain h) t s + count-off (pair-of (head h t s) ∷ ps) k
+      from (inl l) = rw (count-off-within (pair-of (head h t s)) ps k l) (ticks-in-run t k s p l)
+      from (inr l) =
           let e : k ≡ w + (k - w) = omega arith in
-          let parts : ticks h t k s ≡ ticks h t (k - w) (give h t w s) =
-          ap (λ (j : ℕ). ticks h t j s) e
-          ∙ ticks-add h t w (k - w) s
-          ∙ ap (ticks h t (k - w)) (run-is-ticks t w s p (some-width n h heads t s p) (le-refl w))
-          in
-          rw (parts, min-eq-right m) (omega (arith, rest, give-adds n h heads t w s (le-refl w) p))
+          let run = run-is-ticks t w s p (some-width n h heads t s p) (le-refl w) in
+          rw (e, ticks-add h t w (k - w) s, run, count-off-beyond (pair-of (head h t s)) ps (k - w))
+          (omega (arith, rest (k - w), give-adds n h heads t w s (le-refl w) p))
 
   module _ (left : ℕ → ℕ → ℕ) (steps : Steps h left) where
     give-ends : (t : Tree) (w : ℕ) (s : St t) → across left t (give h t w s) ≤ across left t s
@@ -194,9 +174,6 @@ module _ (n : ℕ) (h : ℕ → ℕ → Head) (heads : Heads n h) where
     pub run-ends-step : (t : Tree) (w : ℕ) (s : St t) → w ≡ head h t s .width → 0 < head h t s .gain → across left t (give h t w s) < across left t s
     run-ends-step (wire l) w s = λ e pos. absurd (omega arith)
     run-ends-step (series P m Q) w s =
-        let a = head h P (s .0) in
-        let b = h m (s .1) in
-        let c = head h Q (s .2) in
         by-item h P m Q s
         (λ (i : Item). w ≡ item-head h P m Q s i .width → 0 < item-head h P m Q s i .gain → across left (series P m Q) (item-given h P m Q w s i) < across left (series P m Q) s)
         (λ ab ac e pos. omega (arith, run-ends-step P w (s .0) e pos))
@@ -249,4 +226,4 @@ module _ (n : ℕ) (h : ℕ → ℕ → Head) (heads : Heads n h) where
         (λ p.
         let w = head h t s .width in
         let s′ = give h t w s in
-        run-then t s p (runs h t f s′) k (ticks-earn t f s′ (omega (arith, run-ends-step t w s refl p)) (k - w)))
+        run-then t s p (runs h t f s′) k (ticks-earn t f s′ (omega (arith, run-ends-step t w s refl p))))

@@ -4,23 +4,14 @@ use mathlib.Core.Path.{_≡_, refl, sym, _∙_}
 use mathlib.Core.Logic.{_≢_, _⊎_, inl, inr}
 use mathlib.Core.List.{List}
 use Prim.Native.Nat.{ℕ, zero, suc, _+_, _*_, _≤_, _<_}
-use native.Mathlib.Nat.{add-mul, zero-mul, one-mul, suc-mul, le-refl, eq-or-lt-of-le}
+use native.Mathlib.Nat.{add-mul, zero-mul, one-mul, suc-mul, eq-or-lt-of-le}
 use native.Mathlib.Omega.{arith}
 use lib.ListN.{getD}
 use Rattle.lists.specs.Sum.{sum}
+use Rattle.lists.proofs.Sum.{sum-same, sum-le}
 use Rattle.optimum.specs.Tree.{wire, series, parallel, Tree, is, count, Below, across}
 use Rattle.optimum.specs.Increases.{read}
 use Rattle.optimum.proofs.Count.{is-self, is-other}
-
-pub sum-same : (n : ℕ) (f e : ℕ → ℕ) → ((i : ℕ) → i < n → f i ≡ e i) → sum n f ≡ sum n e
-unfolding sum
-sum-same zero f e h = refl
-sum-same (suc n) f e h = omega (arith, sum-same n f e (λ i l. h i (omega arith)), h n (le-refl _))
-
-pub sum-at-most : (n : ℕ) (f e : ℕ → ℕ) → ((i : ℕ) → i < n → f i ≤ e i) → sum n f ≤ sum n e
-unfolding sum
-sum-at-most zero f e h = le-refl _
-sum-at-most (suc n) f e h = omega (arith, sum-at-most n f e (λ i l. h i (omega arith)), h n (le-refl _))
 
 pub sum-add : (n : ℕ) (f e : ℕ → ℕ) → sum n (λ (i : ℕ). f i + e i) ≡ sum n f + sum n e
 unfolding sum
@@ -123,4 +114,4 @@ module _ (n : ℕ) (y : List ℕ) where
   earned-same v u h = sum-same n _ _ (λ g l. sum-same (getD y g 0) (v g) (u g) (h g l))
 
   pub earned-at-most : (v u : ℕ → ℕ → ℕ) → ((g i : ℕ) → v g i ≤ u g i) → earned v n y ≤ earned u n y
-  earned-at-most v u h = sum-at-most n _ _ (λ g l. sum-at-most (getD y g 0) (v g) (u g) (λ i l′. h g i))
+  earned-at-most v u h = sum-le n _ _ (λ g l. sum-le (getD y g 0) (v g) (u g) (λ i l′. h g i))

@@ -10,20 +10,25 @@ use native.Mathlib.Decide.{decLt}
 use native.Mathlib.Omega.{arith}
 use lib.ListN.{getD}
 use Rattle.lists.specs.Sum.{sum}
+use Rattle.lists.proofs.Sum.{sum-same}
 use Rattle.model.specs.Ties.{Before}
-use Rattle.optimum.specs.Tree.{wire, series, parallel, Tree, count, zeros, longest, worth, Raised, Run}
+use Rattle.optimum.specs.Tree.{wire, series, parallel, Tree, count, St, zeros, longest, next, worth, Raised, Run}
 use Rattle.optimum.specs.Head.{Head, Heads, rank}
-use Rattle.optimum.specs.Handout.{ticks, raise}
+use Rattle.optimum.specs.Handout.{head, ticks, raise}
 use Rattle.optimum.specs.Increases.{read, sized}
 use Rattle.optimum.proofs.Count.{in-series, in-parallel}
-use Rattle.optimum.proofs.Best.{best, lasts-at-most}
+use Rattle.optimum.proofs.Best.{best, lasts, lasts-at-most}
 use Rattle.optimum.proofs.Handout.{plain}
-use Rattle.optimum.proofs.Value.{value, Proper}
+use Rattle.optimum.proofs.Value.{value, Proper, some-worth}
 use Rattle.optimum.proofs.Handed.{value-falls, run-by-heads, raised-by-heads}
 use Rattle.optimum.proofs.Earning.{Earning, run-earning, raised-earning}
 use Rattle.optimum.proofs.Increases.{length-sized, read-sized}
-use Rattle.optimum.proofs.Sums.{sum-same, sum-constant, across-gates, earned, earned-add, earned-mul, earned-same, earned-at-most}
+use Rattle.optimum.proofs.Sums.{sum-constant, across-gates, earned, earned-add, earned-mul, earned-same, earned-at-most}
 use Rattle.optimum.proofs.Digits.{number, Digits, smaller-is-before, number-below}
+
+-- y is worth less than x, or as much and comes later
+abbrev pub Later : (List ℕ → ℕ) → List ℕ → List ℕ → Type 0
+Later worth x y = (worth y < worth x) ⊎ ((worth y ≡ worth x) × Before x y)
 
 -- every tick of a gate of the part is worth something
 earning-at : (v : ℕ → ℕ → ℕ) (t : Tree) (x : List ℕ) → Earning v t (read t x) → (g : ℕ) → 0 < count t g → (i : ℕ) → i < getD x g 0 → 0 < v g i
@@ -105,6 +110,22 @@ module _ (B n : ℕ) (positive : 0 < B) (h : ℕ → ℕ → Head) (heads : Head
     sized-lasts =
         rw read-x (lasts-at-most d v (value-falls B n positive h heads) t k (raise d h t) (ticks h t k (raise d h t)) start run)
 
+    -- it lasts exactly so long, unless nothing is left to gain
+    pub sized-lasts-exactly : (longest d t (read t (sized d h t n k)) ≡ longest d t (zeros t) + k) ⊎ (head h t (read t (sized d h t n k)) .gain ≡ 0)
+    unfolding v
+    sized-lasts-exactly =
+        rw read-x (from (lasts d v (value-falls B n positive h heads) t k (raise d h t) (ticks h t k (raise d h t)) start run)
+        (eq-zero-or-pos (head h t (ticks h t k (raise d h t)) .gain)))
+      where
+        s : St t
+        s = ticks h t k (raise d h t)
+
+        from : (longest d t s ≡ longest d t (zeros t) + k) ⊎ (next v t s ≡ 0) → (head h t s .gain ≡ 0) ⊎ (0 < head h t s .gain)
+            → (longest d t s ≡ longest d t (zeros t) + k) ⊎ (head h t s .gain ≡ 0)
+        from (inl e) _ = inl e
+        from (inr z) (inl e) = inr e
+        from (inr z) (inr p) = absurd (omega (arith, some-worth B n positive h heads t s proper p))
+
     digits : Digits B n (sized d h t n k)
     digits = record { length-is = length-sized h d t n k; below = λ g l. go g l (getD (sized d h t n k) g 0) refl }
       where
@@ -126,20 +147,20 @@ module _ (B n : ℕ) (positive : 0 < B) (h : ℕ → ℕ → Head) (heads : Head
         rw read-x (best d v (value-falls B n positive h heads) t k (raise d h t) (ticks h t k (raise d h t)) start run (read t y) l)
 
     pub sized-beats : (y : List ℕ) → Digits B n y → longest d t (read t y) ≤ longest d t (zeros t) + k → y ≢ sized d h t n k
-        → (earned (plain h) n y < earned (plain h) n (sized d h t n k)) ⊎ ((earned (plain h) n y ≡ earned (plain h) n (sized d h t n k)) × Before (sized d h t n k) y)
+        → Later (earned (plain h) n) (sized d h t n k) y
     sized-beats y dy l other =
-        go (settled (B ^ n) _ _ _ _ _ _ (worth-saving (sized d h t n k)) (worth-saving y) (at-least-as-worthy y l)
+        later (settled (B ^ n) _ _ _ _ _ _ (worth-saving x) (worth-saving y) (at-least-as-worthy y l)
         (omega (arith, short-at-most y, number-below B n y dy)))
       where
-        before : (sized d h t n k ≡ y) ⊎ Before (sized d h t n k) y → Before (sized d h t n k) y
+        x : List ℕ
+        x = sized d h t n k
+
+        before : (x ≡ y) ⊎ Before x y → Before x y
         before (inl e) = absurd (other (sym e))
         before (inr b) = b
 
-        go : (earned (plain h) n y < earned (plain h) n (sized d h t n k)) ⊎ ((earned (plain h) n y ≡ earned (plain h) n (sized d h t n k)) × (earned short n (sized d h t n k) ≤ earned short n y))
-            → (earned (plain h) n y < earned (plain h) n (sized d h t n k)) ⊎ ((earned (plain h) n y ≡ earned (plain h) n (sized d h t n k)) × Before (sized d h t n k) y)
-        go (inl less) = inl less
-        go (inr (same, less)) =
-            inr (
-              same,
-              before (smaller-is-before B n (sized d h t n k) y digits dy (omega (arith, all-short, short-at-most y))),
-            )
+        later : (earned (plain h) n y < earned (plain h) n x)
+            ⊎ ((earned (plain h) n y ≡ earned (plain h) n x) × (earned short n x ≤ earned short n y)) → Later (earned (plain h) n) x y
+        later (inl less) = inl less
+        later (inr (same, less)) =
+            inr (same, before (smaller-is-before B n x y digits dy (omega (arith, all-short, short-at-most y))))

@@ -76,7 +76,8 @@ module _ (B n : ℕ) (positive : 0 < B) where
       go (inl none) = omega (arith, worth-nothing b u y hb none)
       go (inr pos) =
           let pos′ : 0 < a .gain = omega arith in
-          let next-rank : suc (a .rank) ≤ b .rank = strict (apart pos′ pos) k in
+          let other = apart pos′ pos in
+          let next-rank : suc (a .rank) ≤ b .rank = omega arith in
           omega (
             arith,
             rw e at (ha .total),
@@ -85,9 +86,6 @@ module _ (B n : ℕ) (positive : 0 < B) where
             pow-le-pow-right positive next-rank,
             hb .least pos,
           )
-        where
-          strict : {p q : ℕ} → p ≢ q → p ≤ q → p < q
-          strict d m = omega arith
 
   -- side by side
   valued-beside : (a b : Head) (v u z y : ℕ) → Valued B n a v z → Valued B n b u y → Valued B n (beside a b) (v + u) (z + y)

@@ -1,12 +1,13 @@
 -- For a block with a tree, and drops that do not rise, the list after k ticks from the raised start is the best of the lists within start + k. A base above every gate's widths and the number of gates makes the values of the ticks.
 -- Assumes nothing.
 use mathlib.Core.Path.{_≡_, refl, sym, subst, fun-ext}
+use mathlib.Core.Logic.{_⊎_}
 use mathlib.Core.List.{List, []}
 use Prim.Native.Nat.{ℕ, zero, suc, _+_, _≤_, _<_}
 use native.Mathlib.Nat.{add-zero, le-trans}
 use native.Mathlib.Decide.{decLt}
 use native.Mathlib.Omega.{arith}
-use lib.ListN.{getD, List·getD-eq-default}
+use lib.ListN.{length, getD, List·getD-eq-default}
 use Rattle.lists.specs.Sum.{sum, total}
 use Rattle.model.specs.Block.{Block, no-gate, gate, gate-count, first, last, widths}
 use Rattle.model.specs.Path.{Longest}
@@ -15,6 +16,7 @@ use Rattle.model.specs.InTime.{drawn, Within, IsStart}
 use Rattle.model.specs.Best.{BestWithin}
 use Rattle.optimum.specs.Tree.{Tree, size, longest}
 use Rattle.optimum.specs.Head.{Heads}
+use Rattle.optimum.specs.Handout.{head}
 use Rattle.optimum.specs.Increases.{read}
 use Rattle.optimum.specs.Gates.{Descending, gate-head}
 use Rattle.optimum.specs.BlockTree.{IsTree, start-of, increases}
@@ -22,7 +24,7 @@ use Rattle.optimum.proofs.Handout.{plain}
 use Rattle.optimum.proofs.Value.{Proper}
 use Rattle.optimum.proofs.Increases.{length-sized, read-zeros}
 use Rattle.optimum.proofs.Sums.{sum-member, earned, earned-same}
-use Rattle.optimum.proofs.Ties.{sized-gains, sized-lasts, sized-beats}
+use Rattle.optimum.proofs.Ties.{sized-gains, sized-lasts, sized-lasts-exactly, sized-beats}
 use Rattle.optimum.proofs.Gates.{gate-gain, within-widths, gate-heads}
 
 -- what model's lists save is what their ticks earn in plain gains
@@ -41,6 +43,15 @@ module _ (B : Block) (t : Tree) (tree : IsTree B t) where
   -- lists are within a time exactly where the tree lasts no longer
   pub within-lasts : (T : ℕ) (y : List ℕ) → Within B T y → longest (drawn B) t (read t y) ≤ T
   within-lasts T y w = w .paths _ (tree .lasts (drawn B) y .attained)
+
+  pub lasts-within : (T : ℕ) (y : List ℕ) → length y ≡ gate-count B
+      → ((g : ℕ) → g < gate-count B → getD y g 0 ≤ widths (gate B g .steps)) → longest (drawn B) t (read t y) ≤ T → Within B T y
+  lasts-within T y one-each in-widths l =
+      record {
+        one-each = one-each;
+        within-widths = in-widths;
+        paths = λ u p. le-trans (tree .lasts (drawn B) y .greatest u p) l;
+      }
 
   -- more than any gate's widths, and than the number of gates
   base : ℕ
@@ -83,13 +94,14 @@ module _ (B : Block) (t : Tree) (tree : IsTree B t) where
 
     within : Within B (start-of B t + k) (increases B t k)
     within =
-        record {
-          one-each = length-sized (gate-head B) (drawn B) t (gate-count B) k;
-          within-widths = in-widths;
-          paths = λ u p.
-              le-trans (tree .lasts (drawn B) (increases B t k) .greatest u p)
-              (sized-lasts base (gate-count B) positive (gate-head B) heads bounded (drawn B) t proper (tree .all) k);
-        }
+        lasts-within (start-of B t + k) (increases B t k) (length-sized (gate-head B) (drawn B) t (gate-count B) k) in-widths
+        (sized-lasts base (gate-count B) positive (gate-head B) heads bounded (drawn B) t proper (tree .all) k)
+
+    -- it lasts exactly start + k while a tick was left
+    pub lasts-exactly : (longest (drawn B) t (read t (increases B t k)) ≡ start-of B t + k)
+        ⊎ (head (gate-head B) t (read t (increases B t k)) .gain ≡ 0)
+    lasts-exactly =
+        sized-lasts-exactly base (gate-count B) positive (gate-head B) heads bounded (drawn B) t proper (tree .all) k
 
     -- the list after k ticks is the best within start + k
     pub best-after : BestWithin B (start-of B t + k) (increases B t k)

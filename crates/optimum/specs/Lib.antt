@@ -5,3 +5,4 @@ pub mod Increases
 pub mod Gates
 pub mod Runs
 pub mod BlockTree
+pub mod Code

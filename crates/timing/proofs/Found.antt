@@ -44,37 +44,40 @@ along n m sources targets delays order lent ordered =
     }
 
 -- each gate passed adds at most a gate's and a wire's longest delay
-pub source-bounded : (m : ℕ) (sources targets delays : List ℕ) (d : ℕ → ℕ) (base : ℕ)
-    → ((i : ℕ) → getD delays i 0 ≤ max-time)
-    → ((g : ℕ) → d g ≤ most-delay)
+pub source-bounded : (n m : ℕ) (sources targets delays : List ℕ) (d : ℕ → ℕ) (base : ℕ)
+    → ((i : ℕ) → i < m → (getD delays i 0 ≤ max-time) × (getD sources i 0 < n))
+    → ((g : ℕ) → g < n → d g ≤ most-delay)
     → (f g : ℕ)
+    → g < n
     → source-by f (wires-in m sources targets delays) d base g ≤ base + f * (most-delay + max-time)
 unfolding source-by
-source-bounded m sources targets delays d base of-wire of-gate zero g = omega arith
-source-bounded m sources targets delays d base of-wire of-gate (suc f) g =
-    by (latest-attained ws (source-by f ws d base) base g) (source-bounded m sources targets delays d base of-wire of-gate f)
+source-bounded n m sources targets delays d base of-wire of-gate zero g h = omega arith
+source-bounded n m sources targets delays d base of-wire of-gate (suc f) g h =
+    by (latest-attained ws (source-by f ws d base) base g) (source-bounded n m sources targets delays d base of-wire of-gate f)
   where
     ws : List Wire
     ws = wires-in m sources targets delays
 
     by : Came ws (source-by f ws d base) base g (latest-in ws (source-by f ws d base) base g)
-        → ((h : ℕ) → source-by f ws d base h ≤ base + f * (most-delay + max-time))
+        → ((x : ℕ) → x < n → source-by f ws d base x ≤ base + f * (most-delay + max-time))
         → latest-in ws (source-by f ws d base) base g + d g ≤ base + suc f * (most-delay + max-time)
-    by (at-base e) below = omega (arith, of-gate g)
+    by (at-base e) below = omega (arith, of-gate g h)
     by (by-wire a w on e) below =
         let r = mem-build m (wire-at sources targets delays) on in
         let is : w ≡ getD delays (r .0) 0 = ap (λ (v : Wire). v .delay) (r .2) in
-        omega (arith, of-gate g, below a, of-wire (r .0))
+        let from : getD sources (r .0) 0 ≡ a = ap (λ (v : Wire). v .source) (sym (r .2)) in
+        let in-block : a < n = rw from at (of-wire (r .0) (r .1) .1) in
+        omega (arith, of-gate g h, below a in-block, of-wire (r .0) (r .1) .0)
 
 module _ (n m : ℕ) (order sources targets wire-delays gate-delays heads links : List ℕ) (base : ℕ) (lent-times : List ℕ) (ready : Ready n m order sources targets wire-delays gate-delays heads links base lent-times) where
   abbrev source-time : ℕ → ℕ
   source-time = source-by n (wires-in m sources targets wire-delays) (λ (h : ℕ). getD gate-delays h 0) base
 
-  source-small : (g : ℕ) → source-time g ≤ time-bound
-  source-small g =
+  source-small : (g : ℕ) → g < n → source-time g ≤ time-bound
+  source-small g h =
       omega (
         arith,
-        source-bounded m sources targets wire-delays (λ (h : ℕ). getD gate-delays h 0) base (ready .walkable .of-wire) (ready .delays .of-gate) n g,
+        source-bounded n m sources targets wire-delays (λ (x : ℕ). getD gate-delays x 0) base (λ (i : ℕ) (l : i < m). (ready .walkable .of-wire i l, ready .walkable .lent .source-is-gate i l)) (ready .delays .of-gate) n g h,
         ready .base-small,
         ready .walkable .lent .gates,
       )
@@ -141,6 +144,9 @@ module _ (n m : ℕ) (order sources targets wire-delays gate-delays heads links 
         right = all-right;
       }
     where
+      in-block : g < n
+      in-block = rw (← e) at (ready .ordered .names-gate k h)
+
       in-times : g < length times
       in-times = omega (arith, found-walkable k times f .times-long, ready .ordered .names-gate k h)
 
@@ -151,7 +157,7 @@ module _ (n m : ℕ) (order sources targets wire-delays gate-delays heads links 
       small x = by (ℕ-discrete x g)
         where
           by : Dec (x ≡ g) → getD (set times g (latest + getD gate-delays g 0)) x 0 ≤ time-bound
-          by (yes s) = rw (s, getD-set-same times g (latest + getD gate-delays g 0) 0 in-times, here) (source-small g)
+          by (yes s) = rw (s, getD-set-same times g (latest + getD gate-delays g 0) 0 in-times, here) (source-small g in-block)
           by (no o) = rw (getD-set-other times g x (latest + getD gate-delays g 0) 0 o) (f .bounded x)
 
       all-right : (x : ℕ) → x < n → ready .ordered .place x < k + 1 → getD (set times g (latest + getD gate-delays g 0)) x 0 ≡ source-time x
@@ -172,4 +178,5 @@ module _ (n m : ℕ) (order sources targets wire-delays gate-delays heads links 
       → g ≡ getD order k 0
       → latest ≡ latest-in (wires-in m sources targets wire-delays) (λ (a : ℕ). getD times a 0) base g
       → latest + getD gate-delays g 0 ≤ time-bound
-  found-fits k g latest times f h e is = rw (right-time k g latest times f h e is) (source-small g)
+  found-fits k g latest times f h e is =
+      rw (right-time k g latest times f h e is) (source-small g (rw (← e) at (ready .ordered .names-gate k h)))

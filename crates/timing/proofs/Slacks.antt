@@ -75,7 +75,7 @@ module _ (n m : ℕ) (order sources targets wire-delays gate-delays : List ℕ) 
               omega (
                 arith,
                 forth-right g h,
-                source-bounded m sources targets wire-delays delay arrival (able .delays .of-wire) (able .delays .of-gate) n g,
+                source-bounded n m sources targets wire-delays delay arrival (λ (i : ℕ) (l : i < m). (able .delays .of-wire i l, able .lent .source-is-gate i l)) (able .delays .of-gate) n g h,
                 able .arrival-small,
                 able .lent .gates,
               );
@@ -84,7 +84,7 @@ module _ (n m : ℕ) (order sources targets wire-delays gate-delays : List ℕ) 
               omega (
                 arith,
                 back-right g h,
-                source-bounded m targets sources wire-delays delay 0 (able .delays .of-wire) (able .delays .of-gate) n g,
+                source-bounded n m targets sources wire-delays delay 0 (λ (i : ℕ) (l : i < m). (able .delays .of-wire i l, able .lent .target-is-gate i l)) (able .delays .of-gate) n g h,
                 able .lent .gates,
               );
           own-delay = λ (g : ℕ) (h : g < n). omega (arith, tail-is g h);

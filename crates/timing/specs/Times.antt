@@ -22,14 +22,14 @@ time-bound = 536870912
 pub record Delays (n m : ℕ) (wire-delays gate-delays : List ℕ) : Type 0 where
   pub wires-long : m ≤ length wire-delays
   pub gates-long : n ≤ length gate-delays
-  pub of-wire : (i : ℕ) → getD wire-delays i 0 ≤ max-time
-  pub of-gate : (g : ℕ) → getD gate-delays g 0 ≤ most-delay
+  pub of-wire : (i : ℕ) → i < m → getD wire-delays i 0 ≤ max-time
+  pub of-gate : (g : ℕ) → g < n → getD gate-delays g 0 ≤ most-delay
 
 -- The wires are chained by their targets, and the times found so far are no longer than the bound.
 pub record Walkable (n m : ℕ) (sources targets wire-delays heads links times : List ℕ) : Type 0 where
   pub lent : Lent n m sources targets
   pub wires-long : m ≤ length wire-delays
-  pub of-wire : (i : ℕ) → getD wire-delays i 0 ≤ max-time
+  pub of-wire : (i : ℕ) → i < m → getD wire-delays i 0 ≤ max-time
   pub heads-long : n ≤ length heads
   pub links-long : m ≤ length links
   pub chained : Chained targets m heads links

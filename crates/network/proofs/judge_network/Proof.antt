@@ -18,12 +18,15 @@ same-length : tie.Need-same-length
 same-length c = search needs
 
 returns : tie.Need-returns
-returns c = let a = c .before .before .before .before .before .before .before .before .before .args in
-    let o = c .before .before .before .before .order-gates .last .1 .1 .1 .1 .0 in
-    let e = not-true (c .before .before .before .before .order-gates .result) (c .before .if1 .taken) in (
-      λ B I E. lowest-found B (a .n) (a .m) (a .sources .now) (a .targets .now) I (c .before .before .before .before .before .before .before .before .before .pre .0)
-          (subst (OrderFound B o) e (c .before .before .before .before .order-gates .ensures .0 B I)) (c .lowest-on-loop .result) (c .lowest-on-loop .ensures B I),
-      c .before .before .before .before .order-gates .ensures .1,
+returns c =
+    let entry = c .before .before .before .before .before .before .before .before .before in
+    let order-gates = c .before .before .before .before .order-gates in
+    let a = entry .args in
+    let o = order-gates .last .1 .1 .1 .1 .0 in
+    let e = not-true (order-gates .result) (c .before .if1 .taken) in (
+      λ B I E. lowest-found B (a .n) (a .m) (a .sources .now) (a .targets .now) I (entry .pre .0)
+          (subst (OrderFound B o) e (order-gates .ensures .0 B I)) (c .lowest-on-loop .result) (c .lowest-on-loop .ensures B I),
+      order-gates .ensures .1,
     )
 
 lowest-at-fault-requires : tie.Need-lowest-at-fault-requires
@@ -39,20 +42,30 @@ same-length-2 : tie.Need-same-length-2
 same-length-2 c = search needs
 
 returns-2 : tie.Need-returns-2
-returns-2 c = let o = c .before .before .before .before .before .before .order-gates .last .1 .1 .1 .1 .0 in
-    let e = not-false (c .before .before .before .before .before .before .order-gates .result) (c .before .before .before .if1 .left) in (
-      λ B I E. sound-judged B o (subst (OrderFound B o) e (c .before .before .before .before .before .before .order-gates .ensures .0 B I)) (subst (FaultFound B) (c .enum-told .given .1) (c .before .before .lowest-at-fault .ensures B I E)),
-      c .before .before .before .before .before .before .order-gates .ensures .1,
+returns-2 c =
+    let order-gates = c .before .before .before .before .before .before .order-gates in
+    let if1 = c .before .before .before .if1 in
+    let lowest-at-fault = c .before .before .lowest-at-fault in
+    let o = order-gates .last .1 .1 .1 .1 .0 in
+    let e = not-false (order-gates .result) (if1 .left) in (
+      λ B I E. sound-judged B o (subst (OrderFound B o) e (order-gates .ensures .0 B I))
+          (subst (FaultFound B) (c .enum-told .given .1) (lowest-at-fault .ensures B I E)),
+      order-gates .ensures .1,
     )
 
 same-length-3 : tie.Need-same-length-3
 same-length-3 c = search needs
 
 returns-3 : tie.Need-returns-3
-returns-3 c = let o = c .before .before .before .before .before .before .before .order-gates .last .1 .1 .1 .1 .0 in
-    let e = not-false (c .before .before .before .before .before .before .before .order-gates .result) (c .before .before .before .before .if1 .left) in (
-      λ B I E. ends-judged B o (subst (OrderFound B o) e (c .before .before .before .before .before .before .before .order-gates .ensures .0 B I)) _ (subst (FaultFound B) (c .before .faults .given .1) (c .before .before .before .lowest-at-fault .ensures B I E)),
-      c .before .before .before .before .before .before .before .order-gates .ensures .1,
+returns-3 c =
+    let order-gates = c .before .before .before .before .before .before .before .order-gates in
+    let if1 = c .before .before .before .before .if1 in
+    let lowest-at-fault = c .before .before .before .lowest-at-fault in
+    let o = order-gates .last .1 .1 .1 .1 .0 in
+    let e = not-false (order-gates .result) (if1 .left) in (
+      λ B I E. ends-judged B o (subst (OrderFound B o) e (order-gates .ensures .0 B I)) _
+          (subst (FaultFound B) (c .before .faults .given .1) (lowest-at-fault .ensures B I E)),
+      order-gates .ensures .1,
     )
 
 pub judge-network-spec : {M : Type 1} → statement M

@@ -24,8 +24,15 @@ misplaced-requires-2 : tie.Need-misplaced-requires-2
 misplaced-requires-2 c κs = search needs
 
 returns-2 : tie.Need-returns-2
-returns-2 c = let a = c .before .before .before .before .before .before .before .args in
-    says-or (Misplaced (a .g) (a .first) (getD (a .ins .now) (a .g) 0)) (Misplaced (a .g) (a .last) (getD (a .outs .now) (a .g) 0)) (c .misplaced2 .result) (rw (c .before .before .if1 .left) at (c .before .before .before .misplaced .ensures)) (c .misplaced2 .ensures)
+returns-2 c =
+    let entry = c .before .before .before .before .before .before .before in
+    let if1 = c .before .before .if1 in
+    let misplaced = c .before .before .before .misplaced in
+    let a = entry .args in
+    says-or
+    (Misplaced (a .g) (a .first) (getD (a .ins .now) (a .g) 0))
+    (Misplaced (a .g) (a .last) (getD (a .outs .now) (a .g) 0))
+    (c .misplaced2 .result) (rw (if1 .left) at (misplaced .ensures)) (c .misplaced2 .ensures)
 
 pub faulty-spec : {M : Type 1} → statement M
 faulty-spec = tie.close (tie.spec shared-slice-read-misplaced misplaced-requires returns shared-slice-read-misplaced-2 misplaced-requires-2 returns-2)

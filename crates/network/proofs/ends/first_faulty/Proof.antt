@@ -23,8 +23,12 @@ faulty-requires : tie.Need-faulty-requires Inv-loop μ-loop
 faulty-requires c κs = search needs
 
 returns : tie.Need-returns Inv-loop μ-loop
-returns c = let a = c .before .before .before .before .before .before .args in
-    first-found (Faulty (a .first) (a .last) (a .ins .now) (a .outs .now)) (a .n) (c .before .before .before .loop .g) (c .before .before .loop-test .taken) (c .before .before .before .loop .inv .1) (rw (c .if1 .taken) at (c .before .faulty .ensures))
+returns c =
+    let entry = c .before .before .before .before .before .before in
+    let loop = c .before .before .before .loop in
+    let loop-test = c .before .before .loop-test in
+    let a = entry .args in
+    first-found (Faulty (a .first) (a .last) (a .ins .now) (a .outs .now)) (a .n) (loop .g) (loop-test .taken) (loop .inv .1) (rw (c .if1 .taken) at (c .before .faulty .ensures))
 
 add-g : tie.Need-add-g Inv-loop μ-loop
 add-g c = search needs
@@ -33,12 +37,18 @@ loop-less : tie.Need-loop-less Inv-loop μ-loop
 loop-less c = search needs
 
 loop-again : tie.Need-loop-again Inv-loop μ-loop
-loop-again c = let a = c .before .before .before .before .before .before .args in
-    (omega arith, below-more (λ (q : ℕ). ¬ (Faulty (a .first) (a .last) (a .ins .now) (a .outs .now) q)) (c .before .before .before .loop .g) (c .before .before .before .loop .inv .1) (rw (c .if1 .left) at (c .before .faulty .ensures)))
+loop-again c =
+    let entry = c .before .before .before .before .before .before in
+    let loop = c .before .before .before .loop in
+    let a = entry .args in
+    (omega arith, below-more (λ (q : ℕ). ¬ (Faulty (a .first) (a .last) (a .ins .now) (a .outs .now) q)) (loop .g) (loop .inv .1) (rw (c .if1 .left) at (c .before .faulty .ensures)))
 
 returns-2 : tie.Need-returns-2 Inv-loop μ-loop
-returns-2 c = let a = c .before .before .before .before .args in
-    first-none (Faulty (a .first) (a .last) (a .ins .now) (a .outs .now)) (a .n) (c .before .loop .g) (omega arith) (c .before .loop .inv .1)
+returns-2 c =
+    let entry = c .before .before .before .before in
+    let loop = c .before .loop in
+    let a = entry .args in
+    first-none (Faulty (a .first) (a .last) (a .ins .now) (a .outs .now)) (a .n) (loop .g) (omega arith) (loop .inv .1)
 
 pub first-faulty-spec : {M : Type 1} → statement M
 first-faulty-spec = tie.close (tie.spec Inv-loop μ-loop loop-holds faulty-requires returns add-g loop-less loop-again returns-2)

@@ -5,10 +5,14 @@ use Rattle.network.proofs.ends.misplaced.Statement.{statement}
 use Rattle.network.proofs.ends.misplaced.Tie as tie
 
 returns : tie.Need-returns
-returns c = end-says (c .before .args .g) (c .before .args .end) (c .before .args .mark) (c .if1 .taken)
+returns c =
+    let entry = c .before in
+    end-says (entry .args .g) (entry .args .end) (entry .args .mark) (c .if1 .taken)
 
 returns-2 : tie.Need-returns-2
-returns-2 c = other-says (c .before .args .g) (c .before .args .end) (c .before .args .mark) (c .if1 .left)
+returns-2 c =
+    let entry = c .before in
+    other-says (entry .args .g) (entry .args .end) (entry .args .mark) (c .if1 .left)
 
 pub misplaced-spec : {M : Type 1} → statement M
 misplaced-spec = tie.close (tie.spec returns returns-2)

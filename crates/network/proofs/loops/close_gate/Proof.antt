@@ -18,8 +18,10 @@ abbrev μ-loop : tie.MeasureT-loop
 μ-loop n k square₀ a₀ square a = n - a
 
 loop-holds : tie.Need-loop-holds Inv-loop μ-loop
-loop-holds c = let g = c .before .args in
-    (omega arith, refl, λ start C. gate-begins start (g .n) (c .before .pre .0 .0) (g .k) (g .square .now) C)
+loop-holds c =
+    let entry = c .before in
+    let g = entry .args in
+    (omega arith, refl, λ start C. gate-begins start (g .n) (entry .pre .0 .0) (g .k) (g .square .now) C)
 
 visit-row-requires : tie.Need-visit-row-requires Inv-loop μ-loop
 visit-row-requires c κs = search needs
@@ -31,15 +33,21 @@ loop-less : tie.Need-loop-less Inv-loop μ-loop
 loop-less c = search needs
 
 loop-again : tie.Need-loop-again Inv-loop μ-loop
-loop-again c = (omega arith, c .before .before .visit-row .kept .1 .1 .1 .0 ∙ c .before .before .before .before .before .loop .inv .1, λ start C. c .before .before .visit-row .ensures start (c .before .before .before .before .before .loop .inv .2 start C))
+loop-again c =
+    let visit-row = c .before .before .visit-row in
+    let loop = c .before .before .before .before .before .loop in
+    (omega arith, visit-row .kept .1 .1 .1 .0 ∙ loop .inv .1, λ start C. visit-row .ensures start (loop .inv .2 start C))
 
 same-length : tie.Need-same-length Inv-loop μ-loop
 same-length c = search needs
 
 returns : tie.Need-returns Inv-loop μ-loop
-returns c = let g = c .before .before .before .args in
-    let e : c .before .loop .a ≡ g .n = omega arith in
-    λ start C. gate-ends start (g .n) (c .before .before .before .pre .0 .0) (g .k) (c .before .loop .square) (rw e at (c .before .loop .inv .2 start C))
+returns c =
+    let entry = c .before .before .before in
+    let loop = c .before .loop in
+    let g = entry .args in
+    let e : loop .a ≡ g .n = omega arith in
+    λ start C. gate-ends start (g .n) (entry .pre .0 .0) (g .k) (loop .square) (rw e at (loop .inv .2 start C))
 
 pub close-gate-spec : {M : Type 1} → statement M
 close-gate-spec = tie.close (tie.spec Inv-loop μ-loop loop-holds visit-row-requires add-a loop-less loop-again same-length returns)

@@ -30,25 +30,34 @@ loop-less : tie.Need-loop-less Inv-loop μ-loop
 loop-less c = search needs
 
 loop-again : tie.Need-loop-again Inv-loop μ-loop
-loop-again c = let g = c .before .before .before .before .before .before .before .args in
-    let few = c .before .before .before .before .before .before .before .pre .0 .0 in
-    let kn = c .before .before .before .before .before .before .before .pre .0 .1 in
-    let an = c .before .before .before .before .before .before .before .pre .0 .2 in
-    let l = c .before .before .before .before .before .before .before .pre .1 .0 in
-    let e = c .before .before .before .before .before .loop .inv .1 in
-    let t = c .before .before .before .before .loop-test .taken in (
+loop-again c =
+    let entry = c .before .before .before .before .before .before .before in
+    let loop = c .before .before .before .before .before .loop in
+    let loop-test = c .before .before .before .before .loop-test in
+    let visit-pair = c .before .before .visit-pair in
+    let g = entry .args in
+    let few = entry .pre .0 .0 in
+    let kn = entry .pre .0 .1 in
+    let an = entry .pre .0 .2 in
+    let l = entry .pre .1 .0 in
+    let e = loop .inv .1 in
+    let t = loop-test .taken in (
       omega arith,
-      c .before .before .visit-pair .kept .1 .1 .1 .0 ∙ e,
-      λ start C. pair-visited start (g .n) few (g .k) (g .a) an (c .before .before .before .before .before .loop .b) t (c .before .before .before .before .before .loop .square) (c .before .before .before .before .before .loop .inv .2 start C) kn (omega arith) (C .right (g .a) (g .k) an kn (c .before .before .before .before .before .before .before .pre .1 .1)) (c .before .before .visit-pair .ensures),
+      visit-pair .kept .1 .1 .1 .0 ∙ e,
+      λ start C. pair-visited start (g .n) few (g .k) (g .a) an (loop .b) t (loop .square) (loop .inv .2 start C) kn (omega arith)
+          (C .right (g .a) (g .k) an kn (entry .pre .1 .1)) (visit-pair .ensures),
     )
 
 same-length : tie.Need-same-length Inv-loop μ-loop
 same-length c = search needs
 
 returns : tie.Need-returns Inv-loop μ-loop
-returns c = let g = c .before .before .before .args in
-    let e : c .before .loop .b ≡ g .n = omega arith in
-    λ start C. row-ends start (g .n) (c .before .before .before .pre .0 .0) (g .k) (g .a) (c .before .before .before .pre .0 .2) (c .before .loop .square) (rw e at (c .before .loop .inv .2 start C))
+returns c =
+    let entry = c .before .before .before in
+    let loop = c .before .loop in
+    let g = entry .args in
+    let e : loop .b ≡ g .n = omega arith in
+    λ start C. row-ends start (g .n) (entry .pre .0 .0) (g .k) (g .a) (entry .pre .0 .2) (loop .square) (rw e at (loop .inv .2 start C))
 
 pub close-row-spec : {M : Type 1} → statement M
 close-row-spec = tie.close (tie.spec Inv-loop μ-loop loop-holds visit-pair-requires add-b loop-less loop-again same-length returns)

@@ -18,7 +18,9 @@ abbrev μ-loop : tie.MeasureT-loop
 μ-loop n square₀ k₀ square k = n - k
 
 loop-holds : tie.Need-loop-holds Inv-loop μ-loop
-loop-holds c = (omega arith, refl, none-through (c .before .args .square .now) (c .before .args .n) (c .before .pre .0))
+loop-holds c =
+    let entry = c .before in
+    (omega arith, refl, none-through (entry .args .square .now) (entry .args .n) (entry .pre .0))
 
 close-gate-requires : tie.Need-close-gate-requires Inv-loop μ-loop
 close-gate-requires c κs = search needs
@@ -30,14 +32,21 @@ loop-less : tie.Need-loop-less Inv-loop μ-loop
 loop-less c = search needs
 
 loop-again : tie.Need-loop-again Inv-loop μ-loop
-loop-again c = (omega arith, c .before .before .close-gate .kept .1 .1 .0 ∙ c .before .before .before .before .before .loop .inv .1, rw (add-one (c .before .before .before .before .before .loop .k)) (c .before .before .close-gate .ensures (c .before .before .before .before .before .before .before .args .square .now) (c .before .before .before .before .before .loop .inv .2)))
+loop-again c =
+    let close-gate = c .before .before .close-gate in
+    let loop = c .before .before .before .before .before .loop in
+    let entry = c .before .before .before .before .before .before .before in
+    (omega arith, close-gate .kept .1 .1 .0 ∙ loop .inv .1, rw (add-one (loop .k)) (close-gate .ensures (entry .args .square .now) (loop .inv .2)))
 
 same-length : tie.Need-same-length Inv-loop μ-loop
 same-length c = search needs
 
 returns : tie.Need-returns Inv-loop μ-loop
-returns c = let e : c .before .loop .k ≡ c .before .before .before .args .n = omega arith in
-    rw e at (c .before .loop .inv .2)
+returns c =
+    let loop = c .before .loop in
+    let entry = c .before .before .before in
+    let e : loop .k ≡ entry .args .n = omega arith in
+    rw e at (loop .inv .2)
 
 pub close-square-spec : {M : Type 1} → statement M
 close-square-spec = tie.close (tie.spec Inv-loop μ-loop loop-holds close-gate-requires add-k loop-less loop-again same-length returns)

@@ -15,7 +15,9 @@ abbrev μ-loop : tie.MeasureT-loop
 μ-loop n square found₀ g₀ found g = n - g
 
 loop-holds : tie.Need-loop-holds Inv-loop μ-loop
-loop-holds c = (omega arith, none-searched (c .before .args .square .now) (c .before .args .n))
+loop-holds c =
+    let entry = c .before in
+    (omega arith, none-searched (entry .args .square .now) (entry .args .n))
 
 visit-self-requires : tie.Need-visit-self-requires Inv-loop μ-loop
 visit-self-requires c κs = search needs
@@ -27,11 +29,17 @@ loop-less : tie.Need-loop-less Inv-loop μ-loop
 loop-less c = search needs
 
 loop-again : tie.Need-loop-again Inv-loop μ-loop
-loop-again c = (omega arith, self-visited (c .before .before .before .before .args .square .now) (c .before .before .before .before .args .n) (c .before .before .loop .g) (c .before .loop-test .taken) (c .before .before .loop .found) (c .before .before .loop .inv .1) (c .visit-self .ensures))
+loop-again c =
+    let entry = c .before .before .before .before in
+    let loop = c .before .before .loop in
+    (omega arith, self-visited (entry .args .square .now) (entry .args .n) (loop .g) (c .before .loop-test .taken) (loop .found) (loop .inv .1) (c .visit-self .ensures))
 
 returns : tie.Need-returns Inv-loop μ-loop
-returns c = let e : c .before .loop .g ≡ c .before .before .before .args .n = omega arith in
-    all-searched (c .before .before .before .args .square .now) (c .before .before .before .args .n) (c .before .loop .found) (rw e at (c .before .loop .inv .1))
+returns c =
+    let loop = c .before .loop in
+    let entry = c .before .before .before in
+    let e : loop .g ≡ entry .args .n = omega arith in
+    all-searched (entry .args .square .now) (entry .args .n) (loop .found) (rw e at (loop .inv .1))
 
 pub first-paired-spec : {M : Type 1} → statement M
 first-paired-spec = tie.close (tie.spec Inv-loop μ-loop loop-holds visit-self-requires add-g loop-less loop-again returns)

@@ -4,6 +4,7 @@ use borrow.Author.Needs.{needs}
 use Prim.Native.Nat.{ℕ}
 use native.Mathlib.Omega.{arith}
 use lib.ListN.{length-replicate, getD-replicate}
+use Rattle.network.proofs.Wires.{lent-all, pairs-fewer}
 use Rattle.network.proofs.Answers.{first-on-loop}
 use Rattle.network.proofs.loops.lowest_on_loop.Statement.{statement}
 use Rattle.network.proofs.loops.lowest_on_loop.Tie as tie
@@ -13,28 +14,41 @@ slice-aggregate-mark-pairs c = search needs
 
 mark-pairs-requires : tie.Need-mark-pairs-requires
 mark-pairs-requires c κs = let l = length-replicate {A = ℕ} 4096 0 in
-    (c .before .before .before .pre, (omega arith, λ i h. getD-replicate {A = ℕ} 4096 i 0 0 h))
+    (lent-all (c .before .before .before .pre), (omega arith, λ i h. getD-replicate {A = ℕ} 4096 i 0 0 h))
 
 slice-aggregate-close-square : tie.Need-slice-aggregate-close-square
 slice-aggregate-close-square c = search needs
 
 close-square-requires : tie.Need-close-square-requires
-close-square-requires c κs = let l = length-replicate {A = ℕ} 4096 0 in
-    let k = c .before .before .mark-pairs .kept .1 .1 .1 .1 .0 in
-    (c .before .before .before .before .before .before .pre .gates, omega arith)
+close-square-requires c κs =
+    let mark-pairs = c .before .before .mark-pairs in
+    let entry = c .before .before .before .before .before .before in
+    let l = length-replicate {A = ℕ} 4096 0 in
+    let k = mark-pairs .kept .1 .1 .1 .0 in
+    (entry .pre .gates, omega arith)
 
 slice-aggregate-first-paired : tie.Need-slice-aggregate-first-paired
 slice-aggregate-first-paired c = search needs
 
 first-paired-requires : tie.Need-first-paired-requires
-first-paired-requires c κs = let l = length-replicate {A = ℕ} 4096 0 in
-    let k = c .before .before .before .before .before .mark-pairs .kept .1 .1 .1 .1 .0 in
-    let j = c .before .before .close-square .kept .1 .0 in
-    (c .before .before .before .before .before .before .before .before .before .pre .gates, omega arith)
+first-paired-requires c κs =
+    let mark-pairs = c .before .before .before .before .before .mark-pairs in
+    let close-square = c .before .before .close-square in
+    let entry = c .before .before .before .before .before .before .before .before .before in
+    let l = length-replicate {A = ℕ} 4096 0 in
+    let k = mark-pairs .kept .1 .1 .1 .0 in
+    let j = close-square .kept .1 .0 in
+    (entry .pre .gates, omega arith)
 
 returns : tie.Need-returns
-returns c = let a = c .before .before .before .before .before .before .before .before .before .before .args in
-    λ B I. first-on-loop B (a .n) (a .m) (a .sources .now) (a .targets .now) I (c .before .before .before .before .before .before .before .before .before .before .pre) (c .before .before .before .before .before .before .mark-pairs .last .1 .1 .1 .1 .0) (c .before .before .before .close-square .last .1 .0) (c .before .before .before .before .before .before .mark-pairs .ensures) (c .before .before .before .close-square .ensures) (c .first-paired .result) (c .first-paired .ensures)
+returns c =
+    let entry = c .before .before .before .before .before .before .before .before .before .before in
+    let mark-pairs = c .before .before .before .before .before .before .mark-pairs in
+    let close-square = c .before .before .before .close-square in
+    let a = entry .args in
+    λ B I. first-on-loop B (a .n) (a .m) (a .sources .now) (a .targets .now) I (entry .pre)
+    (mark-pairs .last .1 .1 .1 .0) (close-square .last .1 .0) (pairs-fewer (entry .pre .gates) (mark-pairs .ensures)) (close-square .ensures)
+    (c .first-paired .result) (c .first-paired .ensures)
 
 pub lowest-on-loop-spec : {M : Type 1} → statement M
 lowest-on-loop-spec = tie.close (tie.spec slice-aggregate-mark-pairs mark-pairs-requires slice-aggregate-close-square close-square-requires slice-aggregate-first-paired first-paired-requires returns)

@@ -5,6 +5,7 @@ use mathlib.Core.Path.{_≡_, refl}
 use Prim.Native.Nat.{_≤_, _-_}
 use native.Mathlib.Omega.{arith}
 use lib.ListN.{length}
+use Rattle.model.specs.Limits.{max-gates}
 use Rattle.network.specs.Wires.{Wired}
 use Rattle.network.specs.Square.{PairMarks}
 use Rattle.network.proofs.Wires.{pairs-none, pairs-marked}
@@ -12,29 +13,56 @@ use Rattle.network.proofs.loops.mark_pairs.Statement.{statement}
 use Rattle.network.proofs.loops.mark_pairs.Tie as tie
 
 abbrev Inv-loop : tie.InvT-loop
-Inv-loop n m sources targets square₀ i₀ square i = (i ≤ m) × (length square ≡ length square₀) × PairMarks (Wired i sources targets) n square
+Inv-loop m sources targets square₀ i₀ square i = (i ≤ m) × (length square ≡ length square₀) × PairMarks (Wired i sources targets) max-gates square
 
 abbrev μ-loop : tie.MeasureT-loop
-μ-loop n m sources targets square₀ i₀ square i = m - i
+μ-loop m sources targets square₀ i₀ square i = m - i
 
 loop-holds : tie.Need-loop-holds Inv-loop μ-loop
-loop-holds c = let a = c .before .before .before .args in
-    (omega arith, refl, pairs-none (a .sources .now) (a .targets .now) (a .n) (a .square .now) (c .before .before .before .pre .0 .gates) (c .before .before .before .pre .1 .1))
+loop-holds c =
+    let entry = c .before .before .before in
+    let a = entry .args in
+    (omega arith, refl, pairs-none (a .sources .now) (a .targets .now) max-gates (a .square .now) (entry .pre .0 .gates) (entry .pre .1 .1))
 
 at-requires : tie.Need-at-requires Inv-loop μ-loop
 at-requires c κs = omega (arith, c .before .before .before .before .before .pre .0 .sources-long)
 
 mul-square : tie.Need-mul-square Inv-loop μ-loop
-mul-square c = omega (arith, c .before .before .before .before .before .before .pre .0 .gates, c .before .before .before .before .before .before .pre .0 .source-is-gate (c .before .before .loop .i) (c .before .loop-test .taken), c .at .ensures)
+mul-square c =
+    let entry = c .before .before .before .before .before .before in
+    let loop = c .before .before .loop in
+    omega (arith, entry .pre .0 .gates, entry .pre .0 .source-is-gate (loop .i) (c .before .loop-test .taken), c .at .ensures)
 
 at-requires-2 : tie.Need-at-requires-2 Inv-loop μ-loop
 at-requires-2 c κs = omega (arith, c .before .before .before .before .before .before .pre .0 .targets-long)
 
 add-square : tie.Need-add-square Inv-loop μ-loop
-add-square c = omega (arith, c .before .before .before .before .before .before .before .pre .0 .gates, c .before .before .before .before .before .before .before .pre .0 .source-is-gate (c .before .before .before .loop .i) (c .before .before .loop-test .taken), c .before .at .ensures, c .before .before .before .before .before .before .before .pre .0 .target-is-gate (c .before .before .before .loop .i) (c .before .before .loop-test .taken), c .at2 .ensures)
+add-square c =
+    let entry = c .before .before .before .before .before .before .before in
+    let loop = c .before .before .before .loop in
+    let loop-test = c .before .before .loop-test in
+    omega (
+      arith,
+      entry .pre .0 .gates,
+      entry .pre .0 .source-is-gate (loop .i) (loop-test .taken),
+      c .before .at .ensures,
+      entry .pre .0 .target-is-gate (loop .i) (loop-test .taken),
+      c .at2 .ensures,
+    )
 
 slice-write-square : tie.Need-slice-write-square Inv-loop μ-loop
-slice-write-square c = omega (arith, c .before .before .before .before .before .before .before .pre .0 .gates, c .before .before .before .before .before .before .before .pre .0 .source-is-gate (c .before .before .before .loop .i) (c .before .before .loop-test .taken), c .before .at .ensures, c .before .before .before .before .before .before .before .pre .0 .target-is-gate (c .before .before .before .loop .i) (c .before .before .loop-test .taken), c .at2 .ensures)
+slice-write-square c =
+    let entry = c .before .before .before .before .before .before .before in
+    let loop = c .before .before .before .loop in
+    let loop-test = c .before .before .loop-test in
+    omega (
+      arith,
+      entry .pre .0 .gates,
+      entry .pre .0 .source-is-gate (loop .i) (loop-test .taken),
+      c .before .at .ensures,
+      entry .pre .0 .target-is-gate (loop .i) (loop-test .taken),
+      c .at2 .ensures,
+    )
 
 add-i : tie.Need-add-i Inv-loop μ-loop
 add-i c = search needs
@@ -43,22 +71,33 @@ loop-less : tie.Need-loop-less Inv-loop μ-loop
 loop-less c = search needs
 
 loop-again : tie.Need-loop-again Inv-loop μ-loop
-loop-again c = let a = c .before .before .before .before .before .before .before .args in
-    let few = c .before .before .before .before .before .before .before .pre .0 .gates in
-    let s = c .before .before .before .before .before .before .before .pre .0 .source-is-gate (c .before .before .before .loop .i) (c .before .before .loop-test .taken) in
-    let t = c .before .before .before .before .before .before .before .pre .0 .target-is-gate (c .before .before .before .loop .i) (c .before .before .loop-test .taken) in
-    let e = c .before .at .ensures in
+loop-again c =
+    let entry = c .before .before .before .before .before .before .before in
+    let loop = c .before .before .before .loop in
+    let loop-test = c .before .before .loop-test in
+    let source = c .before .at in
+    let a = entry .args in
+    let few = entry .pre .0 .gates in
+    let s = entry .pre .0 .source-is-gate (loop .i) (loop-test .taken) in
+    let t = entry .pre .0 .target-is-gate (loop .i) (loop-test .taken) in
+    let e = source .ensures in
     let f = c .at2 .ensures in
-    let l = c .before .before .before .before .before .before .before .pre .1 .0 in
-    let k = c .before .before .before .loop .inv .1 in
-    (omega arith, search needs, pairs-marked (a .sources .now) (a .targets .now) (c .before .before .before .loop .i) (c .before .at .result) (c .at2 .result) e f (a .n) (c .before .before .before .loop .square) few (omega arith) (omega arith) (c .before .before .before .loop .inv .2))
+    let l = entry .pre .1 .0 in
+    let k = loop .inv .1 in (
+      omega arith,
+      search needs,
+      pairs-marked (a .sources .now) (a .targets .now) (loop .i) (source .result) (c .at2 .result) e f max-gates (loop .square) few (omega arith) (omega arith) (loop .inv .2),
+    )
 
 same-length : tie.Need-same-length Inv-loop μ-loop
 same-length c = search needs
 
 returns : tie.Need-returns Inv-loop μ-loop
-returns c = let e : c .before .loop .i ≡ c .before .before .before .before .before .args .m = omega arith in
-    rw e at (c .before .loop .inv .2)
+returns c =
+    let loop = c .before .loop in
+    let entry = c .before .before .before .before .before in
+    let e : loop .i ≡ entry .args .m = omega arith in
+    rw e at (loop .inv .2)
 
 pub mark-pairs-spec : {M : Type 1} → statement M
 mark-pairs-spec = tie.close (tie.spec Inv-loop μ-loop loop-holds at-requires mul-square at-requires-2 add-square slice-write-square add-i loop-less loop-again same-length returns)

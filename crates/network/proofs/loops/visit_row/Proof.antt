@@ -15,11 +15,15 @@ slice-read-if1 : tie.Need-slice-read-if1
 slice-read-if1 c = search needs
 
 returns : tie.Need-returns
-returns c = let g = c .before .before .before .args in
-    λ start C. row-passed start (g .n) (c .before .before .before .pre .0 .0) (g .k) (g .a) (c .before .before .before .pre .0 .2) (g .square .now) C (c .before .before .before .pre .0 .1) (c .if1 .taken)
+returns c =
+    let entry = c .before .before .before in
+    let g = entry .args in
+    λ start C. row-passed start (g .n) (entry .pre .0 .0) (g .k) (g .a) (entry .pre .0 .2) (g .square .now) C (entry .pre .0 .1) (c .if1 .taken)
 
 close-row-requires : tie.Need-close-row-requires
-close-row-requires c κs = (c .before .before .before .before .pre .0, (c .before .before .before .before .pre .1, c .before .if1 .left))
+close-row-requires c κs =
+    let entry = c .before .before .before .before in
+    (entry .pre .0, (entry .pre .1, c .before .if1 .left))
 
 same-length : tie.Need-same-length
 same-length c = c .before .before .close-row .kept .1 .1 .1 .0

@@ -21,7 +21,9 @@ returns-2 : tie.Need-returns-2
 returns-2 c = unmarked (c .if2 .taken)
 
 returns-3 : tie.Need-returns-3
-returns-3 c = found-now (c .before .before .if1 .left) (c .if2 .left)
+returns-3 c =
+    let if1 = c .before .before .if1 in
+    found-now (if1 .left) (c .if2 .left)
 
 pub visit-self-spec : {M : Type 1} → statement M
 visit-self-spec = tie.close (tie.spec returns mul-if2 add-if2 shared-slice-read-if2 returns-2 returns-3)

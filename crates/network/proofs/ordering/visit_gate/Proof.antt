@@ -40,7 +40,11 @@ mul-order : tie.Need-mul-order
 mul-order c = search needs
 
 slice-write-order : tie.Need-slice-write-order
-slice-write-order c = omega (arith, c .before .before .before .before .before .before .before .before .pre .1 .1 (omega (arith, c .before .before .before .at .ensures, c .before .before .if1 .left)))
+slice-write-order c =
+    let entry = c .before .before .before .before .before .before .before .before in
+    let key = c .before .before .before .at in
+    let if1 = c .before .before .if1 in
+    omega (arith, entry .pre .1 .1 (omega (arith, key .ensures, if1 .left)))
 
 add-result : tie.Need-add-result
 add-result c = search needs
@@ -52,7 +56,10 @@ same-length-4 : tie.Need-same-length-4
 same-length-4 c = search needs
 
 returns-3 : tie.Need-returns-3
-returns-3 c = placed-now (omega (arith, c .before .before .before .at .ensures, c .before .before .if1 .left)) (c .if2 .left)
+returns-3 c =
+    let key = c .before .before .before .at in
+    let if1 = c .before .before .if1 in
+    placed-now (omega (arith, key .ensures, if1 .left)) (c .if2 .left)
 
 pub visit-gate-spec : {M : Type 1} → statement M
 visit-gate-spec = tie.close (tie.spec at-requires same-length returns shared-slice-read-if2 same-length-2 returns-2 cast-place mul-place slice-write-place cast-order mul-order slice-write-order add-result same-length-3 same-length-4 returns-3)

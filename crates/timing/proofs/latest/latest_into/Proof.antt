@@ -1,7 +1,9 @@
 -- `timing::latest::latest_into` meets its contract: a walk along the gate's chain of wires. Assumes nothing.
 use borrow.Author.Needs.{needs}
-use Prim.Native.Nat.{_-_}
+use mathlib.Core.Path.{_≡_, sym, _∙_, ap}
+use Prim.Native.Nat.{ℕ, _-_, max, _+_}
 use native.Mathlib.Omega.{arith}
+use lib.ListN.{getD}
 use Rattle.timing.proofs.Walk.{Walk, walk-starts, walk-at, walk-goes-on, walk-falls, walk-ends}
 use Rattle.timing.proofs.latest.latest_into.Statement.{statement}
 use Rattle.timing.proofs.latest.latest_into.Tie as tie
@@ -49,7 +51,7 @@ shared-slice-read-larger-2 : tie.Need-shared-slice-read-larger-2 Inv-loop μ-loo
 shared-slice-read-larger-2 c = omega (arith, walk-at _ _ _ _ _ _ _ _ _ (c .before .before .before .before .before .loop .inv) (c .before .before .before .before .loop-test .taken) .0, c .before .before .before .before .before .before .before .before .before .before .before .before .before .before .pre .2 .wires-long)
 
 add-larger : tie.Need-add-larger Inv-loop μ-loop
-add-larger c = omega (arith, c .before .before .before .before .before .before .before .before .before .before .before .before .before .before .pre .2 .bounded (c .before .before .index2 .result), c .before .before .before .before .before .before .before .before .before .before .before .before .before .before .pre .2 .of-wire (c .before .before .before .before .before .loop .next - 1))
+add-larger c = omega (arith, c .before .before .before .before .before .before .before .before .before .before .before .before .before .before .pre .2 .bounded (c .before .before .index2 .result), c .before .before .before .before .before .before .before .before .before .before .before .before .before .before .pre .2 .of-wire (c .before .before .before .before .before .loop .next - 1) (walk-at _ _ _ _ _ _ _ _ _ (c .before .before .before .before .before .loop .inv) (c .before .before .before .before .loop-test .taken) .0))
 
 larger-requires : tie.Need-larger-requires Inv-loop μ-loop
 larger-requires c κs = search needs

@@ -1,0 +1,72 @@
+//! What each call answers: its refusals in the order of document 01's table, then its values.
+
+use crate::block::{decode, refuse, Block, Refusal};
+use crate::search::{Best, Curve};
+use crate::{exact, network, parts, timing};
+
+/// Elements that the curve's two slices need.
+pub const MAX_PAIRS: usize = 512;
+
+/// The block that the file holds, or one of the refusals 1 to 9.
+pub fn well_formed(file: &[u8]) -> Result<Block, Refusal> {
+    let block = decode(file)?;
+    network::check(&block)?;
+    Ok(block)
+}
+
+/// Slacks, to a slice of `lent` elements.
+pub fn slacks(file: &[u8], lent: usize) -> Result<Vec<i64>, Refusal> {
+    let block = well_formed(file)?;
+    if lent < block.gates.len() {
+        return refuse(10, block.gates.len());
+    }
+    Ok(timing::slacks(&block))
+}
+
+/// The curve, its pairs to slices of so many elements.
+pub fn curve(file: &[u8], lent_widths: usize, lent_gains: usize) -> Result<Curve, Refusal> {
+    let block = well_formed(file)?;
+    if lent_widths < MAX_PAIRS || lent_gains < MAX_PAIRS {
+        return refuse(10, MAX_PAIRS);
+    }
+    if !parts::reduces(&block) {
+        return refuse(11, 0);
+    }
+    Ok(exact::curve(&block))
+}
+
+/// The best list of a well-formed block, where the slice has `lent` elements of which `needed` are wanted.
+fn best_of(block: &Block, lent: usize, needed: usize) -> Result<Best, Refusal> {
+    if lent < needed {
+        return refuse(10, needed);
+    }
+    if !parts::reduces(block) {
+        return refuse(11, 0);
+    }
+    match exact::best(block) {
+        Some(best) => Ok(best),
+        None => refuse(12, 0),
+    }
+}
+
+/// The best increases, to a slice of `lent` elements.
+pub fn best_increases(file: &[u8], lent: usize) -> Result<Best, Refusal> {
+    let block = well_formed(file)?;
+    best_of(&block, lent, block.gates.len())
+}
+
+/// The layout editor's call, to `lent` bytes.
+pub fn layout_call(file: &[u8], lent: usize) -> Result<Best, Refusal> {
+    let block = well_formed(file)?;
+    best_of(&block, lent, 4 * block.gates.len())
+}
+
+/// The saving of a proposed list.
+pub fn judge(file: &[u8], lent: &[u32]) -> Result<u64, Refusal> {
+    let block = well_formed(file)?;
+    let n = block.gates.len();
+    if lent.len() < n {
+        return refuse(10, n);
+    }
+    timing::judge(&block, &lent[..n])
+}

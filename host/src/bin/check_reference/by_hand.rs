@@ -1,0 +1,95 @@
+//! Answers that were worked out by hand: document 01's, and those at the boundaries of the refusals.
+
+use reference::answers;
+use reference::block::{decode, encode, Refusal, MAX_GATES};
+use reference::worked::{self, Expected};
+use reference::{boundaries, exact, generate, merging, parts, printout, search};
+
+fn refusal<T>(answer: Result<T, Refusal>) -> Option<(u32, u32)> {
+    answer.err().map(|r| (r.number, r.place))
+}
+
+/// Whether a worked block gets the answer that document 01 gives.
+fn holds(file: &[u8], expected: &Expected) -> bool {
+    let best = || answers::best_increases(file, MAX_GATES).expect("best increases");
+    let curve = || answers::curve(file, 512, 512).expect("a curve");
+    match expected {
+        Expected::Best(increases, saving) => {
+            let block = decode(file).expect("a block");
+            let tried = search::best(&block).expect("a list in time");
+            best() == tried && tried.increases == *increases && tried.saving == *saving
+        }
+        Expected::AtStart(saving) => curve().at_start == *saving,
+        Expected::Curve(start, at_start, pairs) => {
+            let curve = curve();
+            (curve.start, curve.at_start, &curve.pairs[..]) == (*start, *at_start, *pairs)
+        }
+        Expected::Pairs(pairs) => curve().pairs == *pairs,
+        Expected::Refused(number, place) => {
+            refusal(answers::best_increases(file, MAX_GATES)) == Some((*number, *place))
+        }
+        Expected::Judged(list, saving) => answers::judge(file, list) == Ok(*saving),
+        Expected::NotJudged(list, number, place) => refusal(answers::judge(file, list)) == Some((*number, *place)),
+        Expected::SeriesParallel => {
+            let block = answers::well_formed(file).expect("a block");
+            parts::built_up(&block) && parts::reduces(&block)
+        }
+        Expected::Printed(text) => printout::printout(file) == *text,
+    }
+}
+
+pub fn check_worked() -> usize {
+    let mut count = 0;
+    for block in worked::all() {
+        for expected in &block.expected {
+            assert!(holds(&block.file, expected), "{}: {:?}", block.name, expected);
+            count += 1;
+        }
+    }
+    count
+}
+
+/// Every boundary gets the refusal written beside it, from the reference and from list merging.
+pub fn check_boundaries() -> usize {
+    let all = boundaries::all();
+    for boundary in &all {
+        let found = refusal(answers::best_increases(&boundary.file, MAX_GATES));
+        assert_eq!(found, boundary.refused, "{}", boundary.name);
+        let merged = refusal(merging::best_increases(&boundary.file, &mut [0; MAX_GATES]));
+        assert_eq!(merged, boundary.refused, "{}, by merging", boundary.name);
+    }
+    for number in [1, 2, 3, 4, 5, 6, 7, 8, 9, 11, 12] {
+        assert!(all.iter().any(|b| b.refused.map_or(false, |r| r.0 == number)), "no boundary of {number}");
+    }
+    all.len()
+}
+
+/// The limits of a curve are reached: 512 pairs, and a gain of 63 x 32,768 x 1,000.
+pub fn check_limits() {
+    let pairs = exact::curve(&generate::most_pairs()).pairs;
+    assert_eq!(pairs.len(), 512);
+    let pairs = exact::curve(&generate::largest_gain()).pairs;
+    assert_eq!(pairs, [(2, 63 * 32_768 * 1_000)]);
+}
+
+/// Refusal 10 comes after 9 and before 11 and 12, and its place is what is needed.
+pub fn check_room() -> usize {
+    let ten = |needed| Some((10, needed));
+    let late_bridge = boundaries::all().into_iter().find(|b| b.name == "the bridge, late").expect("a boundary").file;
+    let late = encode(&worked::diamond(6));
+    for file in [&late_bridge, &late] {
+        assert_eq!(refusal(answers::slacks(file, 3)), ten(4));
+        assert_eq!(refusal(answers::slacks(file, 4)), None);
+        assert_eq!(refusal(answers::best_increases(file, 3)), ten(4));
+        assert_eq!(refusal(answers::layout_call(file, 15)), ten(16));
+        assert_eq!(refusal(answers::curve(file, 511, 512)), ten(512));
+        assert_eq!(refusal(answers::curve(file, 512, 511)), ten(512));
+        assert_eq!(refusal(answers::judge(file, &[u32::MAX; 3])), ten(4));
+        assert_eq!(refusal(answers::judge(file, &[u32::MAX; 4])), Some((13, 0)));
+    }
+    assert_eq!(refusal(answers::layout_call(&late_bridge, 16)), Some((11, 0)));
+    assert_eq!(refusal(answers::layout_call(&late, 16)), Some((12, 0)));
+    assert_eq!(refusal(answers::curve(&late, 512, 512)), None);
+    assert_eq!(refusal(answers::best_increases(&[], 0)), Some((1, 0)));
+    16 + 4
+}

@@ -1,0 +1,125 @@
+//! Paths, series-parallel networks, and what the generator makes.
+
+use reference::block::{decode, encode, Block, Gate, Wire, MAX_GATES};
+use reference::generate::{self, any_block, Values, Wires};
+use reference::random::Random;
+use reference::{exact, merging, network, parts, search, timing};
+use std::collections::HashSet;
+
+/// A block whose lists the exhaustive search can try.
+pub fn small_block(random: &mut Random, kind: Wires) -> Block {
+    loop {
+        let values = random.pick(&[Values::Small, Values::Equal]);
+        let gates = 1 + random.below(7);
+        let block = generate::block(random, kind, values, gates, 2);
+        if network::check(&block).is_ok() && search::count_of_lists(&block) <= 3_000 {
+            return block;
+        }
+    }
+}
+
+/// Longest path and slacks, carried along the wires, are what the paths say.
+pub fn check_paths(random: &mut Random) -> usize {
+    for _ in 0..3_000 {
+        let kind = random.pick(&[Wires::SeriesParallel, Wires::General]);
+        let block = small_block(random, kind);
+        let delay = |path: &[usize]| path.iter().map(|&g| i64::from(block.gates[g].delay)).sum::<i64>();
+        let paths = timing::all_paths(&block);
+        assert_eq!(paths.iter().map(|p| delay(p)).max(), Some(timing::start(&block) as i64));
+        let slacks = timing::slacks(&block);
+        for (gate, slack) in slacks.iter().enumerate() {
+            let longest = paths.iter().filter(|p| p.contains(&gate)).map(|p| delay(p)).max().expect("a path");
+            assert_eq!(*slack, i64::from(block.deadline) - i64::from(block.arrival) - longest);
+        }
+    }
+    3_000
+}
+
+/// The reduction decides as building up does; both kinds occur.
+pub fn check_parts(random: &mut Random) -> (usize, usize) {
+    let (mut yes, mut no) = (0, 0);
+    while yes + no < 4_000 {
+        let kind = random.pick(&[Wires::SeriesParallel, Wires::Nearly, Wires::Nearly, Wires::General]);
+        let gates = 1 + random.below(7);
+        let block = generate::block(random, kind, Values::Small, gates, 0);
+        if network::check(&block).is_err() || block.wires.len() > 11 {
+            continue;
+        }
+        let reduces = parts::reduces(&block);
+        assert_eq!(reduces, parts::built_up(&block), "{block:?}");
+        assert!(reduces || kind != Wires::SeriesParallel, "{block:?}");
+        yes += usize::from(reduces);
+        no += usize::from(!reduces);
+    }
+    assert!(yes > 500 && no > 500);
+    (yes, no)
+}
+
+/// Every network of so many gates whose ends are right and which has no loop.
+fn every_network(gates: usize) -> Vec<Block> {
+    let ends = |a: usize, b: usize| a != b && a != gates - 1 && b != 0;
+    let pairs = (0..gates).flat_map(|a| (0..gates).map(move |b| (a, b)));
+    let wires: Vec<Wire> = pairs.filter(|&(a, b)| ends(a, b)).map(|(from, to)| Wire { from, to }).collect();
+    let gate = Gate { delay: 0, p: 128, steps: Vec::new() };
+    let mut networks = Vec::new();
+    for choice in 0u32..1 << wires.len() {
+        let chosen = (0..wires.len()).filter(|i| choice >> i & 1 == 1).map(|i| wires[i]).collect();
+        let block = Block { arrival: 0, deadline: 0, p: 128, gates: vec![gate.clone(); gates], wires: chosen };
+        if network::check(&block).is_ok() {
+            networks.push(block);
+        }
+    }
+    networks
+}
+
+/// The reduction decides as building up does on every network of up to 5 gates, and the generator makes each
+/// series-parallel one of up to 4.
+pub fn check_every_network(random: &mut Random) -> (usize, usize) {
+    let (mut yes, mut no) = (0, 0);
+    for gates in 1..=5 {
+        let mut made: HashSet<Vec<Wire>> = HashSet::new();
+        for _ in 0..20_000 {
+            let mut wires = generate::series_parallel(random, gates);
+            wires.sort();
+            made.insert(wires);
+        }
+        for block in every_network(gates) {
+            let reduces = parts::reduces(&block);
+            assert_eq!(reduces, parts::built_up(&block), "{block:?}");
+            assert!(gates == 5 || reduces == made.contains(&block.wires), "{block:?}");
+            yes += usize::from(reduces);
+            no += usize::from(!reduces);
+        }
+    }
+    (yes, no)
+}
+
+/// The generator makes what its kinds promise.
+pub fn check_generator(random: &mut Random) -> usize {
+    let (mut loops, mut ends, mut not_series_parallel, mut ties, mut late, mut barely_late, mut full) =
+        (0, 0, 0, 0, 0, 0, 0);
+    for _ in 0..4_000 {
+        let block = any_block(random, 12);
+        assert_eq!(decode(&encode(&block)), Ok(block.clone()));
+        match network::check(&block) {
+            Err(refusal) => {
+                loops += usize::from(refusal.number == 8);
+                ends += usize::from(refusal.number == 9);
+            }
+            Ok(()) if !parts::reduces(&block) => not_series_parallel += 1,
+            Ok(()) => {
+                let spare = timing::spare(&block);
+                late += usize::from(spare < 0);
+                barely_late += usize::from(spare == -1);
+                full += usize::from(spare == 0);
+                let mut merged = [0; MAX_GATES];
+                let found = merging::best_increases(&encode(&block), &mut merged);
+                let best = exact::best(&block).map(|b| b.increases);
+                ties += usize::from(found.is_ok() && best.map_or(false, |b| b != merged[..b.len()]));
+            }
+        }
+    }
+    let counts = [loops, ends, not_series_parallel, ties, late, barely_late, full];
+    assert!(counts.iter().all(|&count| count >= 40), "{counts:?}");
+    4_000
+}

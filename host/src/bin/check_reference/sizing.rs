@@ -1,0 +1,138 @@
+//! Best lists and curves: every list, flows and list merging against each other; damaged files.
+
+use crate::networks::small_block;
+use reference::answers;
+use reference::block::{decode, encode, Block, MAX_GATES};
+use reference::generate::{self, any_block, Values, Wires, ALL_VALUES};
+use reference::random::Random;
+use reference::{damage, exact, merging, parts, search, timing};
+
+/// Flows find what trying every list finds: best list, best saving for every spare, curve.
+pub fn check_exact(random: &mut Random) -> (usize, usize) {
+    let (mut lists, mut late) = (0, 0);
+    for _ in 0..6_000 {
+        let kind = random.pick(&[Wires::SeriesParallel, Wires::SeriesParallel, Wires::General]);
+        let block = small_block(random, kind);
+        let tried = search::best(&block);
+        late += usize::from(tried.is_none());
+        assert_eq!(exact::best(&block), tried, "{block:?}");
+        let (start, savings) = search::best_savings(&block);
+        for (k, saving) in savings.iter().enumerate() {
+            let within = exact::best_within(&block, start as i64 + k as i64).expect("a list");
+            assert_eq!(within.saving, *saving, "spare {k}: {block:?}");
+            lists += 1;
+        }
+        if parts::reduces(&block) {
+            assert_eq!(Some(exact::curve(&block)), search::curve(&block), "{block:?}");
+        }
+    }
+    assert!(late > 100);
+    (lists, late)
+}
+
+/// Merging gives a list in time of the saving that it states, which is the best; and the same refusals.
+pub fn check_merging(random: &mut Random) -> (usize, usize) {
+    let (mut accepted, mut refused) = (0, 0);
+    for round in 0..3_000 {
+        let most_gates = if round % 10 == 0 { 64 } else { 16 };
+        let block = any_block(random, most_gates);
+        let mut file = encode(&block);
+        if random.chance(1, 4) {
+            file = damage::damaged(random, &file);
+        }
+        let mut increases = [0; MAX_GATES];
+        let merged = merging::best_increases(&file, &mut increases);
+        match answers::best_increases(&file, MAX_GATES) {
+            Err(refusal) => {
+                assert_eq!(merged, Err(refusal), "{block:?}");
+                refused += 1;
+            }
+            Ok(best) => {
+                assert_eq!(merged, Ok((best.increases.len(), best.saving)), "{block:?}");
+                assert_eq!(answers::judge(&file, &increases), Ok(best.saving), "{block:?}");
+                accepted += 1;
+            }
+        }
+    }
+    assert!(accepted > 500 && refused > 500);
+    (accepted, refused)
+}
+
+/// The best saving of a block of which one gate is slowed by exactly so many ticks, by list merging.
+fn best_saving_with(block: &mut Block, gate: usize, increase: u32) -> Option<u64> {
+    let own = timing::saving_of_gate(block, gate, increase);
+    let drawn = block.gates[gate].clone();
+    block.gates[gate].delay += increase;
+    block.gates[gate].steps.clear();
+    let found = merging::best_increases(&encode(block), &mut [0; MAX_GATES]);
+    block.gates[gate] = drawn;
+    found.ok().map(|(_, saving)| saving + own)
+}
+
+/// The order of ties on larger blocks: gate after gate, the increase allows the best saving and one tick less does not.
+/// (The increases of one gate that allow it lie side by side.)
+pub fn check_ties(random: &mut Random) -> (usize, usize) {
+    let (mut blocks, mut gates) = (0, 0);
+    while blocks < 300 {
+        let values = random.pick(&[Values::Equal, Values::Equal, Values::Exhausted, Values::Plain]);
+        let count = 8 + random.below(57);
+        let mut block = generate::block(random, Wires::SeriesParallel, values, count, 3);
+        let Some(best) = exact::best(&block) else { continue };
+        let mut earned = 0;
+        for (gate, &increase) in best.increases.iter().enumerate() {
+            let whole = |found: Option<u64>| found.map(|saving| saving + earned);
+            assert_eq!(whole(best_saving_with(&mut block, gate, increase)), Some(best.saving));
+            if increase > 0 {
+                assert!(whole(best_saving_with(&mut block, gate, increase - 1)) < Some(best.saving));
+            }
+            earned += timing::saving_of_gate(&block, gate, increase);
+            block.gates[gate].delay += increase;
+            block.gates[gate].steps.clear();
+            gates += 1;
+        }
+        blocks += 1;
+    }
+    (blocks, gates)
+}
+
+/// The curve says what the best list saves, at the block's own spare and at some others.
+pub fn check_curve(random: &mut Random) -> usize {
+    for _ in 0..300 {
+        let values = random.pick(&ALL_VALUES);
+        let gates = 1 + random.below(40);
+        let block = generate::block(random, Wires::SeriesParallel, values, gates, 8);
+        let curve = exact::curve(&block);
+        assert!(curve.pairs.len() <= 512);
+        assert!(curve.pairs.iter().all(|p| p.0 >= 1 && p.1 >= 1 && p.1 <= 63 * 32_768 * 1_000));
+        assert!(curve.pairs.windows(2).all(|p| p[0].1 > p[1].1));
+        let all: u64 = curve.pairs.iter().map(|p| p.0).sum();
+        for _ in 0..4 {
+            let spare = random.below(all as usize + 2) as u64;
+            let mut left = spare;
+            let mut saving = curve.at_start;
+            for &(width, gain) in &curve.pairs {
+                saving += left.min(width) * gain;
+                left -= left.min(width);
+            }
+            let best = exact::best_within(&block, (curve.start + spare) as i64).expect("a list");
+            assert_eq!(best.saving, saving, "spare {spare}: {block:?}");
+        }
+    }
+    300
+}
+
+/// Damaged files get an answer, whose place lies within the file; what is read is what was written.
+pub fn check_damage(random: &mut Random) -> usize {
+    let mut count = 0;
+    for _ in 0..20 {
+        let file = encode(&any_block(random, 8));
+        for damaged in damage::every_cut(&file).into_iter().chain(damage::every_byte_changed(&file)) {
+            match decode(&damaged) {
+                Ok(block) => assert_eq!(encode(&block), damaged),
+                Err(refusal) => assert!(refusal.place as usize <= damaged.len() && (1..=7).contains(&refusal.number)),
+            }
+            count += 1;
+        }
+    }
+    count
+}

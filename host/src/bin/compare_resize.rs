@@ -1,0 +1,79 @@
+//! compare-resize PROGRAM [FILES [SEED]]: what the printing program writes against the reference's printout.
+
+use reference::block::encode;
+use reference::generate::{any_block, most_wires};
+use reference::printout::{printout, MAX_BYTES};
+use reference::random::Random;
+use reference::text::shown;
+use reference::{boundaries, damage, worked};
+use std::io::{Read, Write};
+use std::process::{exit, Command, Stdio};
+
+fn fail(message: String) -> ! {
+    println!("compare-resize: {message}");
+    exit(1)
+}
+
+/// What the program writes for an input.
+fn written(program: &str, input: &[u8]) -> Vec<u8> {
+    let spawned = Command::new(program).stdin(Stdio::piped()).stdout(Stdio::piped()).spawn();
+    let mut child = spawned.unwrap_or_else(|error| fail(format!("{program}: {error}")));
+    let mut stdin = child.stdin.take().expect("a pipe");
+    let input = input.to_vec();
+    // A program that stops reading early closes the pipe, which is no fault.
+    let writer = std::thread::spawn(move || stdin.write_all(&input).is_ok());
+    let mut output = Vec::new();
+    child.stdout.take().expect("a pipe").read_to_end(&mut output).expect("output");
+    writer.join().expect("a writer");
+    let status = child.wait().expect("an end");
+    if !status.success() {
+        fail(format!("{program} ended with {status}"));
+    }
+    output
+}
+
+/// Nobody reads what the program writes: it must end all the same.
+fn ends_with_closed_output(program: &str) {
+    let spawned = Command::new(program).stdin(Stdio::piped()).stdout(Stdio::piped()).spawn();
+    let mut child = spawned.unwrap_or_else(|error| fail(format!("{program}: {error}")));
+    drop(child.stdout.take());
+    child.stdin.take().expect("a pipe").write_all(&encode(&worked::diamond(10))).expect("input");
+    child.wait().expect("an end");
+}
+
+/// Inputs about as long as what decides, and much longer.
+fn long_inputs() -> Vec<Vec<u8>> {
+    let full = encode(&most_wires());
+    let mut inputs = Vec::new();
+    for length in [MAX_BYTES - 1, MAX_BYTES, MAX_BYTES + 1, 100_000] {
+        for file in [&full, &encode(&worked::diamond(10))] {
+            let mut input = file.clone();
+            input.resize(length, 3);
+            inputs.push(input);
+        }
+    }
+    inputs
+}
+
+fn main() {
+    let arguments: Vec<String> = std::env::args().skip(1).collect();
+    let Some(program) = arguments.first() else { fail("usage: compare-resize PROGRAM [FILES [SEED]]".to_string()) };
+    let number = |at: usize, default: u64| arguments.get(at).and_then(|word| word.parse().ok()).unwrap_or(default);
+    let (files, seed) = (number(1, 300), number(2, 1));
+    let random = &mut Random::from_seed(seed);
+    let mut inputs: Vec<Vec<u8>> = worked::all().into_iter().map(|w| w.file).collect();
+    inputs.extend(boundaries::all().into_iter().map(|b| b.file));
+    inputs.extend(long_inputs());
+    for _ in 0..files {
+        let file = encode(&any_block(random, 64));
+        inputs.push(if random.chance(1, 4) { damage::damaged(random, &file) } else { file });
+    }
+    for input in &inputs {
+        let (found, right) = (written(program, input), printout(input));
+        if found != right.as_bytes() {
+            fail(format!("wrote\n{}in place of\n{right}for {}", String::from_utf8_lossy(&found), shown(input)));
+        }
+    }
+    ends_with_closed_output(program);
+    println!("compare-resize: seed {seed}: {} printouts", inputs.len());
+}

@@ -1,0 +1,183 @@
+//! The block file (document 01, "The block file"): its numbers, reading with refusals 1 to 7, writing.
+
+pub const MAX_GATES: usize = 64;
+pub const MAX_WIRES: usize = 256;
+pub const MAX_STEPS: usize = 8;
+pub const MAX_PROBABILITY: u32 = 256;
+pub const MAX_DELAY: u32 = 4_095;
+pub const MAX_WIDTH: u32 = 4_095;
+pub const MAX_DROP: u32 = 1_000;
+pub const MAX_TIME: u32 = 65_535;
+
+/// `width` ticks whose drop is `drop` each.
+#[derive(Clone, Copy, Debug, PartialEq, Eq)]
+pub struct Step {
+    pub width: u32,
+    pub drop: u32,
+}
+
+/// A gate field: drawn delay, probability p of the output in 256ths, steps.
+#[derive(Clone, Debug, PartialEq, Eq)]
+pub struct Gate {
+    pub delay: u32,
+    pub p: u32,
+    pub steps: Vec<Step>,
+}
+
+impl Gate {
+    /// The sum of the widths: the largest increase.
+    pub fn widths(&self) -> u32 {
+        self.steps.iter().map(|s| s.width).sum()
+    }
+}
+
+/// A wire field.
+#[derive(Clone, Copy, Debug, PartialEq, Eq, PartialOrd, Ord, Hash)]
+pub struct Wire {
+    pub from: usize,
+    pub to: usize,
+}
+
+/// All that a block file says. `p` is the input's probability.
+#[derive(Clone, Debug, PartialEq, Eq)]
+pub struct Block {
+    pub arrival: u32,
+    pub deadline: u32,
+    pub p: u32,
+    pub gates: Vec<Gate>,
+    pub wires: Vec<Wire>,
+}
+
+/// A refusal: its number in document 01's table, and its place.
+#[derive(Clone, Copy, Debug, PartialEq, Eq)]
+pub struct Refusal {
+    pub number: u32,
+    pub place: u32,
+}
+
+pub fn refuse<T>(number: u32, place: usize) -> Result<T, Refusal> {
+    Err(Refusal { number, place: place as u32 })
+}
+
+fn two_bytes(bytes: &[u8], at: usize) -> u32 {
+    u32::from(bytes[at]) * 256 + u32::from(bytes[at + 1])
+}
+
+/// The body of the field at `offset`: short header (1), tag (2), length (3), short body (1), in this order.
+fn body(file: &[u8], offset: usize, tag: u8, length_fits: fn(usize) -> bool) -> Result<&[u8], Refusal> {
+    if file.len() - offset < 3 {
+        return refuse(1, offset);
+    }
+    if file[offset] != tag {
+        return refuse(2, offset);
+    }
+    let length = two_bytes(file, offset + 1) as usize;
+    if !length_fits(length) {
+        return refuse(3, offset);
+    }
+    if file.len() - offset - 3 < length {
+        return refuse(1, offset);
+    }
+    Ok(&file[offset + 3..offset + 3 + length])
+}
+
+/// The block field at the front: gate count, arrival, deadline, p.
+fn read_block_field(file: &[u8]) -> Result<(usize, u32, u32, u32), Refusal> {
+    let body = body(file, 0, 1, |length| length == 8)?;
+    let (edition, gates) = (body[0], usize::from(body[1]));
+    let (arrival, deadline, p) = (two_bytes(body, 2), two_bytes(body, 4), two_bytes(body, 6));
+    if edition != 1 || gates < 1 || gates > MAX_GATES || p > MAX_PROBABILITY {
+        return refuse(4, 0);
+    }
+    Ok((gates, arrival, deadline, p))
+}
+
+/// A gate field, and the offset behind it.
+fn read_gate(file: &[u8], offset: usize) -> Result<(Gate, usize), Refusal> {
+    let fits = |length: usize| (0..=MAX_STEPS).any(|k| length == 4 + 4 * k);
+    let body = body(file, offset, 2, fits)?;
+    let mut steps = Vec::new();
+    for step in body[4..].chunks(4) {
+        steps.push(Step { width: two_bytes(step, 0), drop: two_bytes(step, 2) });
+    }
+    let gate = Gate { delay: two_bytes(body, 0), p: two_bytes(body, 2), steps };
+    let step_in_range = |s: &Step| (1..=MAX_WIDTH).contains(&s.width) && (1..=MAX_DROP).contains(&s.drop);
+    if gate.delay > MAX_DELAY || gate.p > MAX_PROBABILITY || !gate.steps.iter().all(step_in_range) {
+        return refuse(4, offset);
+    }
+    if gate.steps.windows(2).any(|pair| pair[0].drop <= pair[1].drop) {
+        return refuse(5, offset);
+    }
+    Ok((gate, offset + 3 + body.len()))
+}
+
+/// A wire field of a block of `gates` gates, after the wires `before`, and the offset behind it.
+fn read_wire(file: &[u8], offset: usize, gates: usize, before: &[Wire]) -> Result<(Wire, usize), Refusal> {
+    if before.len() == MAX_WIRES {
+        return refuse(7, offset);
+    }
+    let body = body(file, offset, 3, |length| length == 2)?;
+    let wire = Wire { from: usize::from(body[0]), to: usize::from(body[1]) };
+    if wire.from >= gates || wire.to >= gates {
+        return refuse(4, offset);
+    }
+    if wire.from == wire.to || before.contains(&wire) {
+        return refuse(6, offset);
+    }
+    Ok((wire, offset + 5))
+}
+
+/// What the file says, or the first of the refusals 1 to 7 that fits it.
+pub fn decode(file: &[u8]) -> Result<Block, Refusal> {
+    let (count, arrival, deadline, p) = read_block_field(file)?;
+    let mut offset = 11;
+    let mut gates = Vec::new();
+    for _ in 0..count {
+        let (gate, behind) = read_gate(file, offset)?;
+        gates.push(gate);
+        offset = behind;
+    }
+    let mut wires = Vec::new();
+    while offset < file.len() {
+        let (wire, behind) = read_wire(file, offset, count, &wires)?;
+        wires.push(wire);
+        offset = behind;
+    }
+    Ok(Block { arrival, deadline, p, gates, wires })
+}
+
+fn put_two_bytes(file: &mut Vec<u8>, number: u32) {
+    let number = u16::try_from(number).expect("a number of two bytes");
+    file.extend_from_slice(&number.to_be_bytes());
+}
+
+fn put_header(file: &mut Vec<u8>, tag: u8, length: usize) {
+    file.push(tag);
+    put_two_bytes(file, length as u32);
+}
+
+/// The file that says this. It tests no range, so that files with faults can be written too.
+pub fn encode(block: &Block) -> Vec<u8> {
+    let mut file = Vec::new();
+    put_header(&mut file, 1, 8);
+    file.push(1);
+    file.push(u8::try_from(block.gates.len()).expect("a gate count of one byte"));
+    put_two_bytes(&mut file, block.arrival);
+    put_two_bytes(&mut file, block.deadline);
+    put_two_bytes(&mut file, block.p);
+    for gate in &block.gates {
+        put_header(&mut file, 2, 4 + 4 * gate.steps.len());
+        put_two_bytes(&mut file, gate.delay);
+        put_two_bytes(&mut file, gate.p);
+        for step in &gate.steps {
+            put_two_bytes(&mut file, step.width);
+            put_two_bytes(&mut file, step.drop);
+        }
+    }
+    for wire in &block.wires {
+        put_header(&mut file, 3, 2);
+        file.push(u8::try_from(wire.from).expect("a gate number of one byte"));
+        file.push(u8::try_from(wire.to).expect("a gate number of one byte"));
+    }
+    file
+}

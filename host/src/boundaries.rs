@@ -1,0 +1,223 @@
+//! Every refusal that a file can get, at its boundaries: each file with the answer of the best increases, by hand.
+
+use crate::block::{encode, Block, Gate, Step, Wire};
+use crate::generate::{largest_gain, most_pairs, most_wires};
+use crate::worked::diamond;
+
+/// A file, and the number and place of its refusal, or `None` where the best increases are given.
+pub struct Boundary {
+    pub name: &'static str,
+    pub file: Vec<u8>,
+    pub refused: Option<(u32, u32)>,
+}
+
+fn refused(name: &'static str, file: Vec<u8>, number: u32, place: u32) -> Boundary {
+    Boundary { name, file, refused: Some((number, place)) }
+}
+
+fn accepted(name: &'static str, file: Vec<u8>) -> Boundary {
+    Boundary { name, file, refused: None }
+}
+
+/// Diamond D with deadline 10: the block field at 0, gates at 11, 18, 33 and 44, wires at 55, 60, 65 and 70, end 75.
+fn d() -> Vec<u8> {
+    encode(&diamond(10))
+}
+
+/// D with the bytes from `at` on replaced.
+fn with(at: usize, bytes: &[u8]) -> Vec<u8> {
+    let mut file = d();
+    file[at..at + bytes.len()].copy_from_slice(bytes);
+    file
+}
+
+fn cut(length: usize) -> Vec<u8> {
+    d()[..length].to_vec()
+}
+
+/// The bytes of `file` and then these.
+fn and(mut file: Vec<u8>, bytes: &[u8]) -> Vec<u8> {
+    file.extend_from_slice(bytes);
+    file
+}
+
+fn gate(steps: &[(u32, u32)]) -> Gate {
+    let steps = steps.iter().map(|&(width, drop)| Step { width, drop }).collect();
+    Gate { delay: 1, p: 128, steps }
+}
+
+fn block(gates: Vec<Gate>, wires: &[(usize, usize)]) -> Block {
+    let wires = wires.iter().map(|&(from, to)| Wire { from, to }).collect();
+    Block { arrival: 0, deadline: 100, p: 128, gates, wires }
+}
+
+/// Plain gates, and these wires.
+fn wired(gates: usize, wires: &[(usize, usize)]) -> Vec<u8> {
+    encode(&block(vec![gate(&[(2, 3)]); gates], wires))
+}
+
+/// A chain of so many gates.
+fn chain(gates: usize) -> Vec<u8> {
+    let wires: Vec<(usize, usize)> = (1..gates).map(|g| (g - 1, g)).collect();
+    wired(gates, &wires)
+}
+
+fn lone(gate: Gate) -> Vec<u8> {
+    encode(&block(vec![gate], &[]))
+}
+
+fn short_fields() -> Vec<Boundary> {
+    vec![
+        refused("no byte", Vec::new(), 1, 0),
+        refused("one byte of a header", cut(1), 1, 0),
+        refused("two bytes of a header", cut(2), 1, 0),
+        refused("a header without its body", cut(3), 1, 0),
+        refused("a body of one byte less", cut(10), 1, 0),
+        refused("no gate", cut(11), 1, 11),
+        refused("a gate's header short", cut(13), 1, 11),
+        refused("a gate's body short", cut(17), 1, 11),
+        refused("a gate too few", cut(44), 1, 44),
+        refused("no wire", cut(55), 9, 0),
+        refused("a wire's header short", cut(57), 1, 55),
+        refused("a wire's body short", cut(59), 1, 55),
+        refused("a wire too few", cut(70), 9, 2),
+        refused("a single byte behind the wires", and(d(), &[3]), 1, 75),
+        refused("a short header with a wrong tag", vec![9, 0], 1, 0),
+    ]
+}
+
+fn tags_and_lengths() -> Vec<Boundary> {
+    vec![
+        refused("tag 0 for the block", with(0, &[0]), 2, 0),
+        refused("tag 2 for the block", with(0, &[2]), 2, 0),
+        refused("tag 1 for a gate", with(11, &[1]), 2, 11),
+        refused("tag 3 for a gate", with(44, &[3]), 2, 44),
+        refused("tag 2 for a wire", with(55, &[2]), 2, 55),
+        refused("tag 4 for a wire", with(70, &[4]), 2, 70),
+        refused("a wrong tag with a wrong length", with(0, &[9, 9, 9]), 2, 0),
+        refused("a block of 7 bytes", with(1, &[0, 7]), 3, 0),
+        refused("a block of 9 bytes", with(1, &[0, 9]), 3, 0),
+        refused("a block of 264 bytes", with(1, &[1, 8]), 3, 0),
+        refused("a gate of 0 bytes", with(12, &[0, 0]), 3, 11),
+        refused("a gate of 3 bytes", with(12, &[0, 3]), 3, 11),
+        refused("a gate of 6 bytes", with(12, &[0, 6]), 3, 11),
+        refused("a gate of 40 bytes", with(12, &[0, 40]), 3, 11),
+        refused("a gate of 260 bytes", with(12, &[1, 4]), 3, 11),
+        refused("a wire of 1 byte", with(71, &[0, 1]), 3, 70),
+        refused("a wire of 3 bytes", with(71, &[0, 3]), 3, 70),
+        refused("a wrong length with a short body", and(d(), &[3, 255, 255]), 3, 75),
+        refused(
+            "a right length with a short body and a number out of range",
+            cut(11).into_iter().chain([2, 0, 4, 255, 255]).collect(),
+            1,
+            11,
+        ),
+        accepted("8 steps", lone(gate(&[(1, 8), (1, 7), (1, 6), (1, 5), (1, 4), (1, 3), (1, 2), (1, 1)]))),
+        refused(
+            "9 steps",
+            lone(gate(&[(1, 9), (1, 8), (1, 7), (1, 6), (1, 5), (1, 4), (1, 3), (1, 2), (1, 1)])),
+            3,
+            11,
+        ),
+    ]
+}
+
+fn ranges() -> Vec<Boundary> {
+    let p = |p| lone(Gate { p, ..gate(&[]) });
+    let delay = |delay| encode(&Block { deadline: 65_535, ..block(vec![Gate { delay, ..gate(&[]) }], &[]) });
+    vec![
+        refused("edition 0", with(3, &[0]), 4, 0),
+        refused("edition 2", with(3, &[2]), 4, 0),
+        refused("0 gates", with(4, &[0]), 4, 0),
+        accepted("1 gate", chain(1)),
+        accepted("64 gates", chain(64)),
+        refused("65 gates", chain(65), 4, 0),
+        refused("255 gates", with(4, &[255]), 4, 0),
+        accepted("p 256 at the input", with(9, &[1, 0])),
+        refused("p 257 at the input", with(9, &[1, 1]), 4, 0),
+        accepted("arrival 0 and deadline 65,535", with(5, &[0, 0, 255, 255])),
+        refused("arrival 65,535 and deadline 0", with(5, &[255, 255, 0, 0]), 12, 0),
+        accepted("p 256 of a gate", p(256)),
+        refused("p 257 of a gate", p(257), 4, 11),
+        accepted("delay 4,095", delay(4_095)),
+        refused("delay 4,096", delay(4_096), 4, 11),
+        accepted("width 1 and drop 1", lone(gate(&[(1, 1)]))),
+        refused("width 0", lone(gate(&[(0, 1)])), 4, 11),
+        accepted("width 4,095 and drop 1,000", lone(gate(&[(4_095, 1_000)]))),
+        refused("width 4,096", lone(gate(&[(4_096, 1_000)])), 4, 11),
+        refused("drop 0", lone(gate(&[(1, 0)])), 4, 11),
+        refused("drop 1,001", lone(gate(&[(1, 1_001)])), 4, 11),
+        refused("a width out of range in the last step", lone(gate(&[(1, 3), (1, 2), (0, 1)])), 4, 11),
+        refused("a wire from gate n", with(73, &[4, 3]), 4, 70),
+        refused("a wire to gate n", with(73, &[0, 4]), 4, 70),
+        refused("a wire from gate 255 to itself", with(73, &[255, 255]), 4, 70),
+        accepted("the largest gain", encode(&largest_gain())),
+        accepted("the most pairs", encode(&most_pairs())),
+    ]
+}
+
+fn drops_and_wires() -> Vec<Boundary> {
+    let full = encode(&most_wires());
+    let end = full.len() as u32;
+    vec![
+        accepted("drops that fall by 1", lone(gate(&[(1, 2), (1, 1)]))),
+        refused("equal drops", lone(gate(&[(1, 2), (1, 2)])), 5, 11),
+        refused("rising drops", lone(gate(&[(1, 3), (1, 1), (1, 2)])), 5, 11),
+        refused("rising drops and a number out of range", lone(gate(&[(1, 3), (1, 4), (0, 2)])), 4, 11),
+        refused(
+            "rising drops before a fault in a later gate",
+            encode(&block(vec![gate(&[(1, 2), (1, 2)]), gate(&[(0, 1)])], &[])),
+            5,
+            11,
+        ),
+        refused("a wire from gate 0 to itself", with(58, &[0, 0]), 6, 55),
+        refused("a wire of the lone gate", wired(1, &[(0, 0)]), 6, 22),
+        refused("a wire that stood before", and(d(), &[3, 0, 2, 0, 1]), 6, 75),
+        refused("a wire that stood just before", with(63, &[0, 1]), 6, 60),
+        refused("a wire and its opposite", and(d(), &[3, 0, 2, 1, 0]), 8, 0),
+        refused("256 wires", full.clone(), 11, 0),
+        refused("a 257th wire", and(full.clone(), &[3, 0, 2, 0, 63]), 7, end),
+        refused("a single byte behind 256 wires", and(full.clone(), &[0]), 7, end),
+        refused("a wire that stood before, behind 256 wires", and(full, &[3, 0, 2, 0, 1]), 7, end),
+    ]
+}
+
+fn networks() -> Vec<Boundary> {
+    let bridge = [(0, 1), (0, 2), (1, 2), (1, 3), (2, 3)];
+    let late = |mut block: Block| {
+        block.deadline = 1;
+        encode(&block)
+    };
+    vec![
+        refused("a loop of two", wired(4, &[(0, 1), (1, 2), (2, 1), (2, 3)]), 8, 1),
+        refused("a loop of three that gate 0 is not on", wired(5, &[(0, 3), (3, 2), (2, 1), (1, 3), (1, 4)]), 8, 1),
+        refused("two loops", wired(6, &[(0, 4), (4, 3), (3, 4), (3, 2), (2, 1), (1, 2), (1, 5)]), 8, 1),
+        refused("a loop beside a fault at the ends", wired(5, &[(0, 4), (2, 3), (3, 2)]), 8, 2),
+        refused("a wire into gate 0", wired(3, &[(1, 0), (0, 2)]), 9, 0),
+        refused("a gate without a wire in", wired(3, &[(0, 2), (1, 2)]), 9, 1),
+        refused("a gate without a wire out", wired(3, &[(0, 1), (0, 2)]), 9, 1),
+        refused("a wire out of gate n - 1", wired(4, &[(0, 1), (1, 3), (3, 2)]), 9, 2),
+        refused("gate n - 1 alone at fault", wired(2, &[(1, 0)]), 9, 0),
+        refused("two gates without a wire", wired(2, &[]), 9, 0),
+        refused("only the last gate at fault", wired(4, &[(0, 1), (1, 2), (3, 2)]), 9, 2),
+        accepted("a chain of two", wired(2, &[(0, 1)])),
+        accepted("a wire beside a chain", wired(3, &[(0, 1), (1, 2), (0, 2)])),
+        refused("the bridge", wired(4, &bridge), 11, 0),
+        refused("the bridge, late", late(block(vec![gate(&[]); 4], &bridge)), 11, 0),
+        accepted("spare 0", encode(&diamond(7))),
+        refused("spare -1", encode(&diamond(6)), 12, 0),
+        refused("deadline 0", encode(&diamond(0)), 12, 0),
+        refused("arrival after deadline", encode(&Block { arrival: 11, ..diamond(10) }), 12, 0),
+        accepted("arrival that leaves spare 0", encode(&Block { arrival: 3, ..diamond(10) })),
+        refused("arrival that leaves spare -1", encode(&Block { arrival: 4, ..diamond(10) }), 12, 0),
+    ]
+}
+
+pub fn all() -> Vec<Boundary> {
+    let mut all = short_fields();
+    all.extend(tags_and_lengths());
+    all.extend(ranges());
+    all.extend(drops_and_wires());
+    all.extend(networks());
+    all
+}

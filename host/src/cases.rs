@@ -1,0 +1,184 @@
+//! The stored blocks of the program `cases`, and what it must print for them. host/CASES.md describes both.
+
+use crate::answers::{self, MAX_PAIRS};
+use crate::block::{encode, Block, Refusal, MAX_GATES};
+use crate::generate::{self, any_block, Wires, ALL_VALUES};
+use crate::random::Random;
+use crate::{boundaries, damage, network, parts, search, worked};
+use std::fmt::{Display, Write};
+
+/// A block file, what is lent to the calls, and the gate and increase of the list that goes beyond a width.
+#[derive(Clone)]
+pub struct Case {
+    pub file: Vec<u8>,
+    pub lent: usize,
+    pub lent_widths: usize,
+    pub lent_gains: usize,
+    pub gate: usize,
+    pub beyond: u32,
+}
+
+/// Elements that the program has for slacks and increases, and for each half of the pairs.
+pub const MOST_LENT: usize = MAX_GATES + 4;
+pub const MOST_LENT_PAIRS: usize = MAX_PAIRS + 8;
+
+impl Case {
+    /// A file with everything lent that the program has. The gate whose width is passed is chosen by `choice`.
+    fn of(file: Vec<u8>, choice: usize) -> Case {
+        let (gate, beyond) = match answers::well_formed(&file) {
+            Err(_) => (0, 1),
+            Ok(block) => {
+                let gate = choice % block.gates.len();
+                (gate, block.gates[gate].widths() + 1)
+            }
+        };
+        Case { file, lent: MOST_LENT, lent_widths: MOST_LENT_PAIRS, lent_gains: MOST_LENT_PAIRS, gate, beyond }
+    }
+
+    /// The record that the program reads.
+    pub fn record(&self) -> Vec<u8> {
+        let mut record = (self.file.len() as u16).to_be_bytes().to_vec();
+        record.push(self.lent as u8);
+        record.extend_from_slice(&(self.lent_widths as u16).to_be_bytes());
+        record.extend_from_slice(&(self.lent_gains as u16).to_be_bytes());
+        record.push(self.gate as u8);
+        record.extend_from_slice(&self.beyond.to_be_bytes());
+        record.extend_from_slice(&self.file);
+        record
+    }
+
+    /// The lines that the program prints for it.
+    pub fn printed(&self, number: usize) -> String {
+        let mut text = format!("case {number}\n");
+        let slacks = answers::slacks(&self.file, self.lent);
+        let curve = answers::curve(&self.file, self.lent_widths, self.lent_gains);
+        let best = answers::best_increases(&self.file, self.lent);
+        line(&mut text, "slacks", slacks.as_ref().map(|s| joined(s)), true);
+        line(&mut text, "curve", curve.as_ref().map(curve_words), true);
+        line(&mut text, "best", best.as_ref().map(|b| format!("{} {}", b.saving, joined(&b.increases))), true);
+        let mut list = vec![0; self.lent];
+        if let Ok(best) = &best {
+            list[..best.increases.len()].copy_from_slice(&best.increases);
+        }
+        line(&mut text, "judge", answers::judge(&self.file, &list).as_ref().map(u64::to_string), false);
+        if let Ok(slacks) = slacks {
+            self.judge_others(&mut text, slacks.len(), &list);
+        }
+        text
+    }
+
+    /// Judging of one tick more at each gate, of one tick beyond a width, and of the largest increase.
+    fn judge_others(&self, text: &mut String, gates: usize, list: &[u32]) {
+        let with = |gate: usize, increase: u32| {
+            let mut list = list.to_vec();
+            list[gate] = increase;
+            match answers::judge(&self.file, &list) {
+                Ok(saving) => saving.to_string(),
+                Err(refusal) => format!("{}:{}", refusal.number, refusal.place),
+            }
+        };
+        let more: Vec<String> = (0..gates).map(|g| with(g, list[g] + 1)).collect();
+        writeln!(text, "more {}", more.join(" ")).unwrap();
+        writeln!(text, "beyond {}", with(self.gate, self.beyond)).unwrap();
+        writeln!(text, "largest {}", with(self.gate, u32::MAX)).unwrap();
+    }
+}
+
+fn joined<T: Display>(numbers: &[T]) -> String {
+    numbers.iter().map(T::to_string).collect::<Vec<_>>().join(" ")
+}
+
+fn curve_words(curve: &search::Curve) -> String {
+    let mut words = format!("{} {} {}", curve.start, curve.at_start, curve.pairs.len());
+    for (width, gain) in &curve.pairs {
+        write!(words, " {width} {gain}").unwrap();
+    }
+    words
+}
+
+fn line(text: &mut String, name: &str, answer: Result<String, &Refusal>, lends: bool) {
+    let words = answer.unwrap_or_else(|r| format!("refused {} {}", r.number, r.place));
+    let kept = if lends { " kept" } else { "" };
+    writeln!(text, "{name} {words}{kept}").unwrap();
+}
+
+/// Slices of just enough elements and of one too few, for blocks that are in time, late, and not series-parallel.
+fn short_slices() -> Vec<Case> {
+    let bridge = boundaries::all().into_iter().find(|b| b.name == "the bridge, late").expect("a boundary").file;
+    let mut cases = Vec::new();
+    for file in [encode(&worked::diamond(10)), encode(&worked::diamond(6)), bridge] {
+        for (lent, lent_widths, lent_gains) in
+            [(4, 512, 512), (3, 511, 512), (3, 512, 511), (0, 0, 0), (4, 511, 511), (68, 520, 511), (3, 512, 512)]
+        {
+            cases.push(Case { lent, lent_widths, lent_gains, ..Case::of(file.clone(), 1) });
+        }
+    }
+    cases.push(Case { lent: 0, ..Case::of(Vec::new(), 0) });
+    cases
+}
+
+/// Diamond D cut at every byte, and with every byte changed.
+fn damaged_diamonds() -> Vec<Case> {
+    let file = encode(&worked::diamond(10));
+    let files = damage::every_cut(&file).into_iter().chain(damage::every_byte_changed(&file));
+    files.enumerate().map(|(i, file)| Case::of(file, i)).collect()
+}
+
+fn small_blocks(random: &mut Random) -> Vec<Case> {
+    (0..150).map(|i| Case::of(encode(&any_block(random, 7)), i)).collect()
+}
+
+fn large_block(random: &mut Random, round: usize) -> Block {
+    let kind = match round % 10 {
+        0 => Wires::Nearly,
+        1 => Wires::General,
+        2 if round % 20 == 2 => Wires::Faulty,
+        _ => Wires::SeriesParallel,
+    };
+    let values = ALL_VALUES[round % 5];
+    let gates = if round % 3 == 0 { 64 } else { 12 + random.below(53) };
+    let most_steps = random.pick(&[1, 2, 4, 8]);
+    generate::block(random, kind, values, gates, most_steps)
+}
+
+/// Every stored case, in order.
+pub fn all() -> Vec<Case> {
+    let random = &mut Random::from_seed(2_023);
+    let mut cases: Vec<Case> = Vec::new();
+    cases.extend(worked::all().into_iter().enumerate().map(|(i, w)| Case::of(w.file, i)));
+    cases.extend(boundaries::all().into_iter().enumerate().map(|(i, b)| Case::of(b.file, i)));
+    cases.extend(short_slices());
+    cases.extend(damaged_diamonds());
+    cases.extend(small_blocks(random));
+    cases.extend((0..300).map(|round| Case::of(encode(&large_block(random, round)), round)));
+    cases
+}
+
+/// What the program reads, and what it must print.
+pub fn written(cases: &[Case]) -> (Vec<u8>, String) {
+    let mut input = Vec::new();
+    let mut output = String::new();
+    for (number, case) in cases.iter().enumerate() {
+        input.extend(case.record());
+        output.push_str(&case.printed(number));
+    }
+    (input, output)
+}
+
+/// Holds the answers of small blocks to the exhaustive search; returns for how many blocks it did.
+pub fn search_agrees(cases: &[Case]) -> usize {
+    let mut count = 0;
+    for case in cases {
+        let Ok(block) = answers::well_formed(&case.file) else { continue };
+        if search::count_of_lists(&block) > 20_000 || block.wires.len() > 11 || network::check(&block).is_err() {
+            continue;
+        }
+        let series_parallel = parts::built_up(&block);
+        let best = answers::best_increases(&case.file, MAX_GATES);
+        assert_eq!(best.ok(), search::best(&block).filter(|_| series_parallel));
+        let curve = answers::curve(&case.file, MAX_PAIRS, MAX_PAIRS);
+        assert_eq!(curve.ok(), search::curve(&block).filter(|_| series_parallel));
+        count += 1;
+    }
+    count
+}

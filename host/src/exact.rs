@@ -1,0 +1,206 @@
+//! The best list and the curve of blocks of any size, by flows.
+//!
+//! The greatest saving within T ticks is, by linear-programming duality, the least cost of a flow from the first gate's
+//! input to the last gate's output: the flow through a gate is what a tick costs there. A gate lets its least gain
+//! through at the length (delay + all widths), each further rise of gain at a length shorter by the step passed, and any
+//! amount at its drawn delay. The flow at T fills the longest paths as long as they are longer than T.
+//! The lists of greatest saving are then exactly those that agree with that flow (complementary slackness), which says of
+//! each list only how far two times may lie apart; so the first of them in the order of ties is found gate after gate
+//! with shortest distances. No part, no series, no parallel occurs here: the block need not be series-parallel.
+
+use crate::apart::Apart;
+use crate::block::Block;
+use crate::search::{Best, Curve};
+use crate::timing::{input_activity, saving, start};
+
+const UNBOUNDED: i64 = i64::MAX / 4;
+
+/// An arc with what can still flow; its opposite is the arc of the other parity.
+struct Arc {
+    to: usize,
+    room: i64,
+    length: i64,
+}
+
+/// A network whose points are the inputs (2g) and outputs (2g + 1) of the gates.
+struct Flow<'a> {
+    block: &'a Block,
+    arcs: Vec<Arc>,
+    out: Vec<Vec<usize>>,
+    total: i64,
+}
+
+/// The gains of a gate's steps that have one, and their widths.
+fn gains(block: &Block, gate: usize) -> Vec<(i64, i64)> {
+    let activity = input_activity(block, gate) as i64;
+    let steps = block.gates[gate].steps.iter();
+    steps.map(|s| (i64::from(s.width), i64::from(s.drop) * activity)).filter(|s| s.1 > 0).collect()
+}
+
+impl<'a> Flow<'a> {
+    /// The network without flow: first an arc for each wire, then those of the gates.
+    fn empty(block: &'a Block) -> Flow<'a> {
+        let mut flow = Flow { block, arcs: Vec::new(), out: vec![Vec::new(); 2 * block.gates.len()], total: 0 };
+        for wire in &block.wires {
+            flow.add(2 * wire.from + 1, 2 * wire.to, UNBOUNDED, 0);
+        }
+        for (g, gate) in block.gates.iter().enumerate() {
+            let mut length = i64::from(gate.delay);
+            let steps = gains(block, g);
+            flow.add(2 * g, 2 * g + 1, UNBOUNDED, length);
+            for (i, &(width, gain)) in steps.iter().enumerate() {
+                length += width;
+                let next = steps.get(i + 1).map_or(0, |s| s.1);
+                flow.add(2 * g, 2 * g + 1, gain - next, length);
+            }
+        }
+        flow
+    }
+
+    fn add(&mut self, from: usize, to: usize, room: i64, length: i64) {
+        self.out[from].push(self.arcs.len());
+        self.arcs.push(Arc { to, room, length });
+        self.out[to].push(self.arcs.len());
+        self.arcs.push(Arc { to: from, room: 0, length: -length });
+    }
+
+    /// The longest way, in what can still flow, from the first input to the last output: its length and its arcs.
+    fn longest_way(&self) -> (i64, Vec<usize>) {
+        let points = self.out.len();
+        let mut length = vec![i64::MIN; points];
+        let mut by = vec![usize::MAX; points];
+        let mut waits = vec![false; points];
+        let mut queue = std::collections::VecDeque::from([0]);
+        length[0] = 0;
+        while let Some(a) = queue.pop_front() {
+            waits[a] = false;
+            for &i in &self.out[a] {
+                let arc = &self.arcs[i];
+                if arc.room > 0 && length[a] + arc.length > length[arc.to] {
+                    length[arc.to] = length[a] + arc.length;
+                    by[arc.to] = i;
+                    if !waits[arc.to] {
+                        waits[arc.to] = true;
+                        queue.push_back(arc.to);
+                    }
+                }
+            }
+        }
+        let mut way = Vec::new();
+        let mut at = points - 1;
+        while at != 0 {
+            way.push(by[at]);
+            at = self.arcs[by[at] ^ 1].to;
+        }
+        (length[points - 1], way)
+    }
+
+    /// Fills ways longer than `time` until there is none; notes each way's length and amount.
+    fn fill(&mut self, time: i64) -> Vec<(i64, i64)> {
+        let mut filled = Vec::new();
+        loop {
+            let (length, way) = self.longest_way();
+            if length <= time {
+                return filled;
+            }
+            let amount = way.iter().map(|&i| self.arcs[i].room).min().expect("a way has an arc");
+            assert!(amount < UNBOUNDED / 2, "a way longer than the time lets any amount through");
+            for i in way {
+                self.arcs[i].room -= amount;
+                self.arcs[i ^ 1].room += amount;
+            }
+            self.total += amount;
+            filled.push((length, amount));
+        }
+    }
+
+    /// The flow on an arc.
+    fn on(&self, arc: usize) -> i64 {
+        self.arcs[arc ^ 1].room
+    }
+
+    fn through_gate(&self, gate: usize) -> i64 {
+        self.out[2 * gate].iter().filter(|&&i| i % 2 == 0).map(|&i| self.on(i)).sum()
+    }
+
+    /// No list within `time` saves more than this.
+    fn bound(&self, time: i64) -> i64 {
+        let lengths: i64 = (0..self.arcs.len()).step_by(2).map(|i| self.on(i) * self.arcs[i].length).sum();
+        let every_tick = |g| gains(self.block, g).iter().map(|s| s.0 * s.1).sum::<i64>();
+        let all: i64 = (0..self.block.gates.len()).map(every_tick).sum();
+        time * self.total - lengths + all
+    }
+}
+
+/// The lists that agree with the flow: how far the times at the gates' inputs and outputs may lie apart.
+fn agreeing(flow: &Flow, time: i64) -> Apart {
+    let block = flow.block;
+    let n = block.gates.len();
+    let mut apart = Apart::free(2 * n);
+    for (i, wire) in block.wires.iter().enumerate() {
+        apart.at_most(2 * wire.to, 2 * wire.from + 1, 0);
+        if flow.on(2 * i) > 0 {
+            apart.at_most(2 * wire.from + 1, 2 * wire.to, 0);
+        }
+    }
+    for (g, gate) in block.gates.iter().enumerate() {
+        let price = flow.through_gate(g);
+        let activity = input_activity(block, g) as i64;
+        let ticks_where = |taken: fn(i64, i64) -> bool| -> i64 {
+            let steps = gate.steps.iter().filter(|s| taken(i64::from(s.drop) * activity, price));
+            steps.map(|s| i64::from(s.width)).sum()
+        };
+        let (least, most) = (ticks_where(|gain, price| gain > price), ticks_where(|gain, price| gain >= price));
+        let delay = i64::from(gate.delay);
+        apart.at_most(2 * g, 2 * g + 1, delay + most);
+        apart.at_most(2 * g + 1, 2 * g, -(delay + least));
+    }
+    apart.at_most(0, 2 * n - 1, time);
+    if flow.total > 0 {
+        apart.at_most(2 * n - 1, 0, -time);
+    }
+    apart.close();
+    apart
+}
+
+/// Of the lists within `time` the one that saves most and, of those, comes first; `None` if there is no list.
+pub fn best_within(block: &Block, time: i64) -> Option<Best> {
+    if time < start(block) as i64 {
+        return None;
+    }
+    let mut flow = Flow::empty(block);
+    flow.fill(time);
+    let mut apart = agreeing(&flow, time);
+    let mut increases = Vec::new();
+    for (g, gate) in block.gates.iter().enumerate() {
+        let least = apart.least(2 * g, 2 * g + 1);
+        apart.narrow(2 * g, 2 * g + 1, least);
+        increases.push(u32::try_from(least - i64::from(gate.delay)).expect("an increase"));
+    }
+    let saving = saving(block, &increases);
+    assert_eq!(saving as i64, flow.bound(time), "the list reaches the bound");
+    Some(Best { increases, saving })
+}
+
+/// The best list under the block's own arrival and deadline.
+pub fn best(block: &Block) -> Option<Best> {
+    best_within(block, i64::from(block.deadline) - i64::from(block.arrival))
+}
+
+/// The curve of a block of which the best savings have one (every series-parallel block).
+pub fn curve(block: &Block) -> Curve {
+    let start = start(block) as i64;
+    let mut flow = Flow::empty(block);
+    let filled = flow.fill(start);
+    let mut pairs: Vec<(u64, u64)> = Vec::new();
+    let mut end = start;
+    let mut gain = flow.total;
+    for (length, amount) in filled.into_iter().rev() {
+        if length > end {
+            pairs.push(((length - end) as u64, gain as u64));
+            end = length;
+        }
+        gain -= amount;
+    }
+    Curve { start: start as u64, at_start: flow.bound(start) as u64, pairs }
+}

@@ -1,0 +1,297 @@
+//! Random blocks: networks of every kind, and values that press on one rule each.
+
+use crate::block::{Block, Gate, Step, Wire, MAX_DELAY, MAX_DROP, MAX_TIME, MAX_WIDTH, MAX_WIRES};
+use crate::random::Random;
+use crate::{network, timing};
+
+/// What the numbers of a block are like.
+#[derive(Clone, Copy, Debug, PartialEq)]
+pub enum Values {
+    /// Few and small, for the exhaustive search.
+    Small,
+    /// Few different gains, so that ties abound.
+    Equal,
+    /// Long delays and short widths: short branches cannot reach the longest.
+    Exhausted,
+    /// Anything of middle size.
+    Plain,
+    /// Delays, widths and drops at their limits.
+    Huge,
+}
+
+pub const ALL_VALUES: [Values; 5] = [Values::Small, Values::Equal, Values::Exhausted, Values::Plain, Values::Huge];
+
+/// What the wires of a block are like.
+#[derive(Clone, Copy, Debug, PartialEq)]
+pub enum Wires {
+    SeriesParallel,
+    /// Series-parallel, then one wire more or elsewhere.
+    Nearly,
+    /// No loop and no fault at the ends, else anything.
+    General,
+    /// Loops, or faults at the ends.
+    Faulty,
+}
+
+/// Gives the gates between the first and the last random numbers, and the wires a random order.
+fn shuffled(random: &mut Random, gates: usize, wires: Vec<(usize, usize)>) -> Vec<Wire> {
+    let mut number: Vec<usize> = (0..gates).collect();
+    if gates > 2 {
+        random.shuffle(&mut number[1..gates - 1]);
+    }
+    let mut wires: Vec<Wire> = wires.iter().map(|&(a, b)| Wire { from: number[a], to: number[b] }).collect();
+    random.shuffle(&mut wires);
+    wires
+}
+
+/// A series-parallel network of any shape: gate after gate is put on a wire, or beside it.
+pub fn series_parallel(random: &mut Random, gates: usize) -> Vec<Wire> {
+    if gates == 1 {
+        return Vec::new();
+    }
+    let beside = random.pick(&[0, 1, 5, 9, 10]);
+    let newest = random.pick(&[0, 5, 10]);
+    let mut wires = vec![(0, gates - 1)];
+    for gate in 1..gates - 1 {
+        let at = if random.chance(newest, 10) { wires.len() - 1 } else { random.below(wires.len()) };
+        let (a, b) = wires[at];
+        if !random.chance(beside, 10) {
+            wires.remove(at);
+        }
+        wires.push((a, gate));
+        wires.push((gate, b));
+    }
+    shuffled(random, gates, wires)
+}
+
+/// A series-parallel network with one wire more, or one that ends elsewhere; no loop.
+fn nearly_series_parallel(random: &mut Random, gates: usize) -> Vec<Wire> {
+    let mut wires = series_parallel(random, gates);
+    let block = bare_block(gates, wires.clone());
+    let order = timing::order(&block);
+    for _ in 0..20 {
+        let (a, b) = (random.below(gates), random.below(gates));
+        let wire = Wire { from: order[a.min(b)], to: order[a.max(b)] };
+        if a != b && !wires.contains(&wire) {
+            if random.chance(1, 3) {
+                wires.swap_remove(random.below(block.wires.len()));
+            }
+            wires.push(wire);
+            break;
+        }
+    }
+    wires
+}
+
+/// Any network without loop whose ends are right, with at most 256 wires.
+fn general(random: &mut Random, gates: usize) -> Vec<Wire> {
+    let mut wires: Vec<(usize, usize)> = Vec::new();
+    let extra = random.below(2 * gates);
+    let mut add = |a: usize, b: usize| {
+        if !wires.contains(&(a, b)) && wires.len() < MAX_WIRES {
+            wires.push((a, b));
+        }
+    };
+    for gate in 1..gates {
+        add(random.below(gate), gate);
+    }
+    for gate in 0..gates - 1 {
+        add(gate, gate + 1 + random.below(gates - 1 - gate));
+    }
+    for _ in 0..extra {
+        let (a, b) = (random.below(gates), random.below(gates));
+        if a != b {
+            add(a.min(b), a.max(b));
+        }
+    }
+    shuffled(random, gates, wires)
+}
+
+/// A network with a wire turned back, taken out, led into the first gate or out of the last.
+fn faulty(random: &mut Random, gates: usize) -> Vec<Wire> {
+    let mut wires = if random.chance(1, 2) { series_parallel(random, gates) } else { general(random, gates) };
+    for _ in 0..1 + random.below(2) {
+        let at = random.below(wires.len().max(1));
+        let any = random.below(gates);
+        let added = match random.below(4) {
+            0 if at < wires.len() => Wire { from: wires[at].to, to: wires[at].from },
+            1 => Wire { from: any, to: 0 },
+            2 => Wire { from: gates - 1, to: any },
+            _ => {
+                if at < wires.len() {
+                    wires.swap_remove(at);
+                }
+                continue;
+            }
+        };
+        if added.from != added.to && !wires.contains(&added) {
+            wires.push(added);
+        }
+    }
+    wires
+}
+
+pub fn wires(random: &mut Random, kind: Wires, gates: usize) -> Vec<Wire> {
+    match kind {
+        Wires::SeriesParallel => series_parallel(random, gates),
+        Wires::Nearly if gates > 2 => nearly_series_parallel(random, gates),
+        Wires::General if gates > 1 => general(random, gates),
+        Wires::Faulty if gates > 1 => faulty(random, gates),
+        _ => series_parallel(random, gates),
+    }
+}
+
+/// A block of gates without delay and steps.
+fn bare_block(gates: usize, wires: Vec<Wire>) -> Block {
+    let gate = Gate { delay: 0, p: 128, steps: Vec::new() };
+    Block { arrival: 0, deadline: 0, p: 128, gates: vec![gate; gates], wires }
+}
+
+/// So many steps: widths up to `widest`, drops up to `largest`, falling strictly.
+fn steps(random: &mut Random, count: usize, widest: u32, largest: u32) -> Vec<Step> {
+    let mut drops: Vec<u32> = Vec::new();
+    for _ in 0..count {
+        let drop = random.between(1, largest);
+        if !drops.contains(&drop) {
+            drops.push(drop);
+        }
+    }
+    drops.sort_by(|a, b| b.cmp(a));
+    drops.iter().map(|&drop| Step { width: random.between(1, widest), drop }).collect()
+}
+
+fn gate(random: &mut Random, values: Values, most_steps: usize) -> Gate {
+    let count = random.below(most_steps + 1);
+    let any_p = random.between(0, 256);
+    match values {
+        Values::Small => {
+            let p = random.pick(&[128, 128, 64, 192, 0, 256, 200]);
+            Gate { delay: random.between(0, 4), p, steps: steps(random, count.min(2), 3, 5) }
+        }
+        Values::Equal => Gate {
+            delay: random.between(0, 6),
+            p: random.pick(&[128, 128, 128, 0]),
+            steps: steps(random, count.min(3), 6, 3),
+        },
+        Values::Exhausted => Gate { delay: random.between(0, 90), p: any_p, steps: steps(random, count, 3, 20) },
+        Values::Plain => Gate { delay: random.between(0, 50), p: any_p, steps: steps(random, count, 20, MAX_DROP) },
+        Values::Huge => {
+            let mut steps = steps(random, count, 1, MAX_DROP);
+            for step in &mut steps {
+                step.width = random.pick(&[MAX_WIDTH, MAX_WIDTH - 1, 1]);
+            }
+            if let Some(step) = steps.first_mut() {
+                step.drop = MAX_DROP;
+            }
+            Gate { delay: random.pick(&[0, 0, 0, 0, 1, 7, MAX_DELAY]), p: random.pick(&[128, 127, 1, 256]), steps }
+        }
+    }
+}
+
+/// Sets arrival and deadline: spare 0, -1, within the widths, at their end or beyond, or the arrival after the deadline.
+pub fn set_times(random: &mut Random, block: &mut Block) {
+    block.arrival = random.pick(&[0, 0, 1, 300, 1_000]);
+    let most_time = i64::from(MAX_TIME);
+    if random.chance(1, 20) || network::check(block).is_err() {
+        block.deadline = random.pick(&[0, block.arrival, block.arrival.saturating_sub(1), 20, MAX_TIME]);
+        return;
+    }
+    let start = timing::start(block) as i64;
+    let widths: Vec<u32> = block.gates.iter().map(|g| g.widths()).collect();
+    let room = timing::longest(block, &widths) as i64 - start;
+    let spare = match random.below(12) {
+        0 => 0,
+        1 => -1,
+        2 => room,
+        3 => room + i64::from(random.between(1, 9)),
+        _ => random.below(room as usize + 1) as i64,
+    };
+    if random.chance(1, 10) {
+        block.arrival = (most_time - start - spare).clamp(0, most_time) as u32;
+    }
+    block.deadline = (i64::from(block.arrival) + start + spare).clamp(0, most_time) as u32;
+}
+
+/// A block of so many gates.
+pub fn block(random: &mut Random, kind: Wires, values: Values, gates: usize, most_steps: usize) -> Block {
+    let wires = wires(random, kind, gates);
+    let mut block = bare_block(gates, wires);
+    for g in 0..gates {
+        block.gates[g] = gate(random, values, most_steps);
+    }
+    block.p = random.pick(&[128, 128, 77, 0, 256, 1]);
+    set_times(random, &mut block);
+    block
+}
+
+/// A series-parallel block with every gate of exactly so many steps and about half of the room used: for measuring.
+pub fn measured_block(random: &mut Random, gates: usize, step_count: usize) -> Block {
+    let wires = series_parallel(random, gates);
+    let mut block = bare_block(gates, wires);
+    for gate in &mut block.gates {
+        gate.delay = random.between(0, 50);
+        gate.p = random.between(16, 240);
+        while gate.steps.len() < step_count {
+            gate.steps = steps(random, step_count, 20, MAX_DROP);
+        }
+    }
+    let widths: Vec<u32> = block.gates.iter().map(|g| g.widths()).collect();
+    let (start, end) = (timing::start(&block), timing::longest(&block, &widths));
+    block.deadline = ((start + end) / 2) as u32;
+    block
+}
+
+/// A block of any kind.
+pub fn any_block(random: &mut Random, most_gates: usize) -> Block {
+    let kinds = [
+        Wires::SeriesParallel,
+        Wires::SeriesParallel,
+        Wires::SeriesParallel,
+        Wires::Nearly,
+        Wires::General,
+        Wires::Faulty,
+    ];
+    let kind = random.pick(&kinds);
+    let values = random.pick(&ALL_VALUES);
+    let gates = 1 + random.below(most_gates);
+    let most_steps = random.pick(&[0, 1, 2, 8]);
+    block(random, kind, values, gates, most_steps)
+}
+
+/// 63 wires lead into the last gate, p 128 each, drop 1,000: the largest gain of a pair.
+pub fn largest_gain() -> Block {
+    let mut wires = vec![Wire { from: 0, to: 63 }];
+    for gate in 1..63 {
+        wires.push(Wire { from: 0, to: gate });
+        wires.push(Wire { from: gate, to: 63 });
+    }
+    let mut block = bare_block(64, wires);
+    block.gates[63].steps = vec![Step { width: 2, drop: 1_000 }];
+    block.deadline = 1;
+    block
+}
+
+/// A chain of 64 gates with 8 steps each, all of different gains: the most pairs that a curve can have.
+pub fn most_pairs() -> Block {
+    let wires = (1..64).map(|gate| Wire { from: gate - 1, to: gate }).collect();
+    let mut block = bare_block(64, wires);
+    for (g, gate) in block.gates.iter_mut().enumerate() {
+        gate.delay = 1;
+        gate.steps = (0..8).map(|i| Step { width: 1 + i, drop: MAX_DROP - 64 * i - g as u32 }).collect();
+    }
+    block.deadline = 1_000;
+    block
+}
+
+/// 64 gates, 256 wires, no loop, ends right; not series-parallel.
+pub fn most_wires() -> Block {
+    let mut wires = Vec::new();
+    for gap in 1..64 {
+        for from in 0..64 - gap {
+            if wires.len() < MAX_WIRES {
+                wires.push(Wire { from, to: from + gap });
+            }
+        }
+    }
+    bare_block(64, wires)
+}

@@ -1,0 +1,20 @@
+//! A second implementation of document 01, written from its text: it says what the library under test should answer.
+
+pub mod answers;
+pub mod apart;
+pub mod block;
+pub mod boundaries;
+pub mod cases;
+pub mod compare;
+pub mod damage;
+pub mod exact;
+pub mod generate;
+pub mod merging;
+pub mod network;
+pub mod parts;
+pub mod printout;
+pub mod random;
+pub mod search;
+pub mod text;
+pub mod timing;
+pub mod worked;

@@ -1,0 +1,191 @@
+//! Reading a block file into arrays, and the refusals 1 to 9.
+
+use crate::block::{refuse, Refusal, MAX_DELAY, MAX_DROP, MAX_GATES, MAX_PROBABILITY, MAX_STEPS, MAX_WIDTH, MAX_WIRES};
+
+pub struct Netlist {
+    pub gates: usize,
+    pub arrival: u32,
+    pub deadline: u32,
+    input: u32,
+    pub delay: [u32; MAX_GATES],
+    activity: [u32; MAX_GATES],
+    /// The steps of gate g are `steps[step_from[g]..step_from[g + 1]]`, each a width and a drop.
+    step_from: [u16; MAX_GATES + 1],
+    steps: [(u16, u16); MAX_GATES * MAX_STEPS],
+    pub wires: usize,
+    pub wire: [(u8, u8); MAX_WIRES],
+    /// Bit b of `follows[a]`: there is a wire from a to b.
+    follows: [u64; MAX_GATES],
+}
+
+fn two_bytes(bytes: &[u8]) -> u32 {
+    u32::from(u16::from_be_bytes([bytes[0], bytes[1]]))
+}
+
+fn activity(p: u32) -> u32 {
+    2 * p * (256 - p)
+}
+
+/// The body of the field at `offset`.
+fn body(file: &[u8], offset: usize, tag: u8, lengths: impl Fn(usize) -> bool) -> Result<&[u8], Refusal> {
+    let Some(header) = file.get(offset..offset + 3) else {
+        return refuse(1, offset);
+    };
+    if header[0] != tag {
+        return refuse(2, offset);
+    }
+    let length = two_bytes(&header[1..]) as usize;
+    if !lengths(length) {
+        return refuse(3, offset);
+    }
+    file.get(offset + 3..offset + 3 + length).map_or_else(|| refuse(1, offset), Ok)
+}
+
+impl Netlist {
+    pub fn read(file: &[u8]) -> Result<Netlist, Refusal> {
+        let header = body(file, 0, 1, |length| length == 8)?;
+        let (gates, p) = (usize::from(header[1]), two_bytes(&header[6..]));
+        if header[0] != 1 || gates == 0 || gates > MAX_GATES || p > MAX_PROBABILITY {
+            return refuse(4, 0);
+        }
+        let mut netlist = Netlist {
+            gates,
+            arrival: two_bytes(&header[2..]),
+            deadline: two_bytes(&header[4..]),
+            input: activity(p),
+            delay: [0; MAX_GATES],
+            activity: [0; MAX_GATES],
+            step_from: [0; MAX_GATES + 1],
+            steps: [(0, 0); MAX_GATES * MAX_STEPS],
+            wires: 0,
+            wire: [(0, 0); MAX_WIRES],
+            follows: [0; MAX_GATES],
+        };
+        let mut offset = 11;
+        for gate in 0..gates {
+            offset = netlist.read_gate(file, offset, gate)?;
+        }
+        while offset < file.len() {
+            offset = netlist.read_wire(file, offset)?;
+        }
+        Ok(netlist)
+    }
+
+    fn read_gate(&mut self, file: &[u8], offset: usize, gate: usize) -> Result<usize, Refusal> {
+        let body = body(file, offset, 2, |length| length % 4 == 0 && (4..=4 + 4 * MAX_STEPS).contains(&length))?;
+        let (delay, p) = (two_bytes(body), two_bytes(&body[2..]));
+        let mut out_of_range = delay > MAX_DELAY || p > MAX_PROBABILITY;
+        let mut falls = true;
+        let mut at = usize::from(self.step_from[gate]);
+        let mut before = u32::MAX;
+        for step in body[4..].chunks_exact(4) {
+            let (width, drop) = (two_bytes(step), two_bytes(&step[2..]));
+            out_of_range |= width.wrapping_sub(1) >= MAX_WIDTH || drop.wrapping_sub(1) >= MAX_DROP;
+            falls &= drop < before;
+            before = drop;
+            self.steps[at] = (width as u16, drop as u16);
+            at += 1;
+        }
+        if out_of_range {
+            return refuse(4, offset);
+        }
+        if !falls {
+            return refuse(5, offset);
+        }
+        self.delay[gate] = delay;
+        self.activity[gate] = activity(p);
+        self.step_from[gate + 1] = at as u16;
+        Ok(offset + 3 + body.len())
+    }
+
+    fn read_wire(&mut self, file: &[u8], offset: usize) -> Result<usize, Refusal> {
+        if self.wires == MAX_WIRES {
+            return refuse(7, offset);
+        }
+        let body = body(file, offset, 3, |length| length == 2)?;
+        let (from, to) = (usize::from(body[0]), usize::from(body[1]));
+        if from >= self.gates || to >= self.gates {
+            return refuse(4, offset);
+        }
+        if from == to || self.follows[from] >> to & 1 == 1 {
+            return refuse(6, offset);
+        }
+        self.follows[from] |= 1 << to;
+        self.wire[self.wires] = (from as u8, to as u8);
+        self.wires += 1;
+        Ok(offset + 5)
+    }
+
+    pub fn steps(&self, gate: usize) -> &[(u16, u16)] {
+        &self.steps[usize::from(self.step_from[gate])..usize::from(self.step_from[gate + 1])]
+    }
+
+    /// The input activities of all gates.
+    pub fn input_activities(&self) -> [u32; MAX_GATES] {
+        let mut sums = [0; MAX_GATES];
+        for &(from, to) in &self.wire[..self.wires] {
+            sums[usize::from(to)] += self.activity[usize::from(from)];
+        }
+        sums[0] = self.input;
+        sums
+    }
+
+    /// Refusals 8 and 9.
+    pub fn check_network(&self) -> Result<(), Refusal> {
+        if self.has_loop() {
+            return refuse(8, self.lowest_on_loop());
+        }
+        let mut led_to = 0;
+        for gate in 0..self.gates {
+            led_to |= self.follows[gate];
+        }
+        for gate in 0..self.gates {
+            let fault_in = (led_to >> gate & 1 == 1) == (gate == 0);
+            let fault_out = (self.follows[gate] != 0) == (gate == self.gates - 1);
+            if fault_in || fault_out {
+                return refuse(9, gate);
+            }
+        }
+        Ok(())
+    }
+
+    /// Takes away gates without a wire in as long as there are any.
+    fn has_loop(&self) -> bool {
+        let mut wires_in = [0u8; MAX_GATES];
+        for &(_, to) in &self.wire[..self.wires] {
+            wires_in[usize::from(to)] += 1;
+        }
+        let mut ready = [0u8; MAX_GATES];
+        let mut count = 0;
+        for gate in (0..self.gates).filter(|&g| wires_in[g] == 0) {
+            ready[count] = gate as u8;
+            count += 1;
+        }
+        let mut done = 0;
+        while done < count {
+            let mut next = self.follows[usize::from(ready[done])];
+            done += 1;
+            while next != 0 {
+                let gate = next.trailing_zeros() as usize;
+                next &= next - 1;
+                wires_in[gate] -= 1;
+                if wires_in[gate] == 0 {
+                    ready[count] = gate as u8;
+                    count += 1;
+                }
+            }
+        }
+        done < self.gates
+    }
+
+    fn lowest_on_loop(&self) -> usize {
+        let mut reaches = self.follows;
+        for middle in 0..self.gates {
+            let beyond = reaches[middle];
+            for row in reaches.iter_mut().filter(|row| **row >> middle & 1 == 1) {
+                *row |= beyond;
+            }
+        }
+        (0..self.gates).find(|&g| reaches[g] >> g & 1 == 1).unwrap_or(0)
+    }
+}

@@ -1,0 +1,194 @@
+//! The reduction of a network to one part, the lists merged on the way, and the way back.
+
+use super::lists::{List, Store, NONE};
+use super::netlist::Netlist;
+use crate::block::MAX_GATES;
+
+#[derive(Clone, Copy)]
+enum Kind {
+    Wire,
+    /// The nodes before and behind a gate.
+    Series(u16, u8, u16),
+    /// Two nodes, and the ticks that each is raised by.
+    Parallel(u16, u16, u32, u32),
+}
+
+#[derive(Clone, Copy)]
+struct Node {
+    kind: Kind,
+    delay: u32,
+    list: List,
+}
+
+const WIRE: Node = Node { kind: Kind::Wire, delay: 0, list: NONE };
+const MAX_NODES: usize = 2 * MAX_GATES + 2;
+
+pub struct Tree {
+    nodes: [Node; MAX_NODES],
+    count: usize,
+    of_gate: [List; MAX_GATES],
+    delay_of_gate: [u32; MAX_GATES],
+    store: Store,
+    at_start: u64,
+}
+
+/// The wires that are left: how many lead into and out of each gate, and the exclusive or of the gates at their other ends.
+struct Left {
+    wires_in: [u8; MAX_GATES],
+    wires_out: [u8; MAX_GATES],
+    before: [u8; MAX_GATES],
+    behind: [u8; MAX_GATES],
+    /// The node of the wire from a to b, plus 1; 0 where there is none.
+    node: [[u16; MAX_GATES]; MAX_GATES],
+}
+
+impl Left {
+    fn all(netlist: &Netlist) -> Left {
+        let mut left = Left {
+            wires_in: [0; MAX_GATES],
+            wires_out: [0; MAX_GATES],
+            before: [0; MAX_GATES],
+            behind: [0; MAX_GATES],
+            node: [[0; MAX_GATES]; MAX_GATES],
+        };
+        for &(from, to) in &netlist.wire[..netlist.wires] {
+            let (a, b) = (usize::from(from), usize::from(to));
+            left.wires_out[a] += 1;
+            left.wires_in[b] += 1;
+            left.behind[a] ^= to;
+            left.before[b] ^= from;
+            left.node[a][b] = 1;
+        }
+        left
+    }
+
+    fn can_go(&self, gate: usize) -> bool {
+        self.wires_in[gate] == 1 && self.wires_out[gate] == 1
+    }
+}
+
+impl Tree {
+    /// The tree of a block, or `None` if it is not series-parallel.
+    pub fn reduced(netlist: &Netlist) -> Option<Tree> {
+        let n = netlist.gates;
+        let mut tree = Tree {
+            nodes: [WIRE; MAX_NODES],
+            count: 1,
+            of_gate: [NONE; MAX_GATES],
+            delay_of_gate: netlist.delay,
+            store: Store::with_capacity(8 * MAX_GATES + 1_024),
+            at_start: 0,
+        };
+        let activities = netlist.input_activities();
+        for gate in 0..n {
+            tree.of_gate[gate] = tree.store.of_gate(netlist.steps(gate), activities[gate]);
+        }
+        let whole = if n == 1 { 0 } else { tree.reduce(netlist)? };
+        let first = tree.series(0, 0, whole);
+        if n > 1 {
+            tree.series(first, n - 1, 0);
+        }
+        Some(tree)
+    }
+
+    /// Takes gates away until none can go; the node of the one wire left.
+    fn reduce(&mut self, netlist: &Netlist) -> Option<u16> {
+        let last = netlist.gates - 1;
+        let mut left = Left::all(netlist);
+        let mut ready: Vec<usize> = (1..last).filter(|&g| left.can_go(g)).collect();
+        let mut remaining = last - 1;
+        while let Some(gate) = ready.pop() {
+            if !left.can_go(gate) {
+                continue;
+            }
+            self.take_away(gate, &mut left);
+            remaining -= 1;
+            for end in [left.before[gate], left.behind[gate]] {
+                let end = usize::from(end);
+                if end != 0 && end != last && left.can_go(end) {
+                    ready.push(end);
+                }
+            }
+            left.wires_in[gate] = 0;
+        }
+        (remaining == 0).then(|| left.node[0][last] - 1)
+    }
+
+    /// Joins the two wires of a gate, and the joined wire with the one beside it.
+    fn take_away(&mut self, gate: usize, left: &mut Left) {
+        let (a, b) = (usize::from(left.before[gate]), usize::from(left.behind[gate]));
+        let joined = self.series(left.node[a][gate] - 1, gate, left.node[gate][b] - 1);
+        left.behind[a] ^= gate as u8;
+        left.before[b] ^= gate as u8;
+        if left.node[a][b] == 0 {
+            left.node[a][b] = joined + 1;
+            left.behind[a] ^= b as u8;
+            left.before[b] ^= a as u8;
+        } else {
+            left.node[a][b] = self.parallel(left.node[a][b] - 1, joined) + 1;
+            left.wires_out[a] -= 1;
+            left.wires_in[b] -= 1;
+        }
+    }
+
+    fn add(&mut self, node: Node) -> u16 {
+        self.nodes[self.count] = node;
+        self.count += 1;
+        (self.count - 1) as u16
+    }
+
+    fn series(&mut self, before: u16, gate: usize, behind: u16) -> u16 {
+        let (one, other) = (self.nodes[usize::from(before)], self.nodes[usize::from(behind)]);
+        let list = self.store.series(one.list, self.of_gate[gate]);
+        let list = self.store.series(list, other.list);
+        let delay = one.delay + self.delay_of_gate[gate] + other.delay;
+        self.add(Node { kind: Kind::Series(before, gate as u8, behind), delay, list })
+    }
+
+    fn parallel(&mut self, one: u16, other: u16) -> u16 {
+        let (p, q) = (self.nodes[usize::from(one)], self.nodes[usize::from(other)]);
+        let delay = p.delay.max(q.delay);
+        let (for_one, for_other) = (delay - p.delay, delay - q.delay);
+        let (p_list, p_earned) = self.store.raised(p.list, u64::from(for_one));
+        let (q_list, q_earned) = self.store.raised(q.list, u64::from(for_other));
+        self.at_start += p_earned + q_earned;
+        let list = self.store.parallel(p_list, q_list);
+        self.add(Node { kind: Kind::Parallel(one, other, for_one, for_other), delay, list })
+    }
+
+    /// The longest path with no increase.
+    pub fn delay(&self) -> u32 {
+        self.nodes[self.count - 1].delay
+    }
+
+    /// Follows the reduction backwards: hands the ticks down to the gates. Returns the saving.
+    pub fn give_back(&self, spare: u64, increases: &mut [u32; MAX_GATES]) -> u64 {
+        let mut ticks = [0u64; MAX_NODES];
+        let root = self.count - 1;
+        ticks[root] = spare;
+        let mut saving = self.at_start;
+        let mut left = spare;
+        for pair in self.store.of(self.nodes[root].list) {
+            let taken = left.min(pair.width);
+            saving += taken * pair.gain;
+            left -= taken;
+        }
+        for node in (0..self.count).rev() {
+            match self.nodes[node].kind {
+                Kind::Wire => {}
+                Kind::Parallel(one, other, for_one, for_other) => {
+                    ticks[usize::from(one)] = ticks[node] + u64::from(for_one);
+                    ticks[usize::from(other)] = ticks[node] + u64::from(for_other);
+                }
+                Kind::Series(before, gate, behind) => {
+                    let (before, gate, behind) = (usize::from(before), usize::from(gate), usize::from(behind));
+                    let lists = [self.nodes[before].list, self.of_gate[gate], self.nodes[behind].list];
+                    let shares = self.store.shares(ticks[node], self.nodes[node].list, lists);
+                    (ticks[before], ticks[behind]) = (shares[0], shares[2]);
+                    increases[gate] = shares[1] as u32;
+                }
+            }
+        }
+        saving
+    }
+}

@@ -1,0 +1,133 @@
+//! Activities, gains, paths, slacks and judging (document 01, "Gains, paths, building up"). The block has no loop.
+
+use crate::block::{refuse, Block, Refusal};
+
+/// The activity of a net of probability p, scaled by 65,536.
+pub fn activity(p: u32) -> u64 {
+    2 * u64::from(p) * (256 - u64::from(p))
+}
+
+/// The sum of the activities of a gate's wires in; for gate 0 the input's own.
+pub fn input_activity(block: &Block, gate: usize) -> u64 {
+    if gate == 0 {
+        return activity(block.p);
+    }
+    block.wires.iter().filter(|w| w.to == gate).map(|w| activity(block.gates[w.from].p)).sum()
+}
+
+/// The gain of the tick that comes after `increase` ticks, `None` beyond the widths.
+pub fn gain_of_tick(block: &Block, gate: usize, increase: u32) -> Option<u64> {
+    let mut end = 0;
+    for step in &block.gates[gate].steps {
+        end += step.width;
+        if increase < end {
+            return Some(u64::from(step.drop) * input_activity(block, gate));
+        }
+    }
+    None
+}
+
+/// The sum of the gains of a gate's first ticks; ticks beyond the widths earn nothing.
+pub fn saving_of_gate(block: &Block, gate: usize, increase: u32) -> u64 {
+    let mut left = increase;
+    let mut saved = 0;
+    for step in &block.gates[gate].steps {
+        let ticks = left.min(step.width);
+        saved += u64::from(ticks) * u64::from(step.drop);
+        left -= ticks;
+    }
+    saved * input_activity(block, gate)
+}
+
+/// The saving of a list of increases.
+pub fn saving(block: &Block, increases: &[u32]) -> u64 {
+    (0..block.gates.len()).map(|g| saving_of_gate(block, g, increases[g])).sum()
+}
+
+/// Every path from gate 0 to gate n - 1, as gates in order.
+pub fn all_paths(block: &Block) -> Vec<Vec<usize>> {
+    let last = block.gates.len() - 1;
+    let mut open = vec![vec![0]];
+    let mut done = Vec::new();
+    while let Some(path) = open.pop() {
+        let end = path[path.len() - 1];
+        if end == last {
+            done.push(path);
+            continue;
+        }
+        for wire in block.wires.iter().filter(|w| w.from == end) {
+            let mut longer = path.clone();
+            longer.push(wire.to);
+            open.push(longer);
+        }
+    }
+    done
+}
+
+/// The gates in an order in which every wire leads forward.
+pub fn order(block: &Block) -> Vec<usize> {
+    let mut order: Vec<usize> = Vec::new();
+    while order.len() < block.gates.len() {
+        let ready = |g: &usize| !order.contains(g) && block.wires.iter().all(|w| w.to != *g || order.contains(&w.from));
+        let next = (0..block.gates.len()).find(ready).expect("a block without loops");
+        order.push(next);
+    }
+    order
+}
+
+/// The latest time at each gate's output, arrival included, with the increases added.
+pub fn source_delays(block: &Block, increases: &[u32]) -> Vec<u64> {
+    let mut times = vec![0; block.gates.len()];
+    for g in order(block) {
+        let before = block.wires.iter().filter(|w| w.to == g).map(|w| times[w.from]).max();
+        let delay = u64::from(block.gates[g].delay) + u64::from(increases[g]);
+        times[g] = before.unwrap_or(u64::from(block.arrival)) + delay;
+    }
+    times
+}
+
+/// The deadline at gate n - 1, carried backwards by the least.
+pub fn required_times(block: &Block) -> Vec<i64> {
+    let mut times = vec![i64::from(block.deadline); block.gates.len()];
+    for &g in order(block).iter().rev() {
+        let out = block.wires.iter().filter(|w| w.from == g);
+        if let Some(least) = out.map(|w| times[w.to] - i64::from(block.gates[w.to].delay)).min() {
+            times[g] = least;
+        }
+    }
+    times
+}
+
+/// Required time minus source delay, before increases.
+pub fn slacks(block: &Block) -> Vec<i64> {
+    let source = source_delays(block, &vec![0; block.gates.len()]);
+    let required = required_times(block);
+    (0..block.gates.len()).map(|g| required[g] - source[g] as i64).collect()
+}
+
+/// The longest path with these increases.
+pub fn longest(block: &Block, increases: &[u32]) -> u64 {
+    source_delays(block, increases)[block.gates.len() - 1] - u64::from(block.arrival)
+}
+
+/// The longest path with no increase.
+pub fn start(block: &Block) -> u64 {
+    longest(block, &vec![0; block.gates.len()])
+}
+
+/// deadline - arrival - start.
+pub fn spare(block: &Block) -> i64 {
+    i64::from(block.deadline) - i64::from(block.arrival) - start(block) as i64
+}
+
+/// The saving of a proposed list of n increases, or refusal 13 or 14.
+pub fn judge(block: &Block, increases: &[u32]) -> Result<u64, Refusal> {
+    let n = block.gates.len();
+    if let Some(gate) = (0..n).find(|&g| increases[g] > block.gates[g].widths()) {
+        return refuse(13, gate);
+    }
+    if u64::from(block.arrival) + longest(block, increases) > u64::from(block.deadline) {
+        return refuse(14, 0);
+    }
+    Ok(saving(block, increases))
+}

@@ -1,0 +1,132 @@
+//! The blocks that document 01 tries by hand, with the answers that it gives for them. None was computed here.
+
+use crate::block::{encode, Block};
+use crate::text;
+
+/// A wire's activity where p is 128.
+pub const U: u64 = 32_768;
+
+/// An answer as document 01 states it.
+#[derive(Debug)]
+pub enum Expected {
+    /// Best increases and saving.
+    Best(&'static [u32], u64),
+    /// The curve's saving at start.
+    AtStart(u64),
+    /// Start, saving at start and pairs.
+    Curve(u64, u64, &'static [(u64, u64)]),
+    /// Pairs alone.
+    Pairs(&'static [(u64, u64)]),
+    /// A refusal of the best increases.
+    Refused(u32, u32),
+    /// Judging a list: its saving.
+    Judged(&'static [u32], u64),
+    /// Judging a list: its refusal.
+    NotJudged(&'static [u32], u32, u32),
+    /// The block is series-parallel.
+    SeriesParallel,
+    /// The whole printout.
+    Printed(&'static str),
+}
+
+pub struct Worked {
+    pub name: &'static str,
+    pub file: Vec<u8>,
+    pub expected: Vec<Expected>,
+}
+
+fn worked(name: &'static str, file: Vec<u8>, expected: Vec<Expected>) -> Worked {
+    Worked { name, file, expected }
+}
+
+fn file(description: &str) -> Vec<u8> {
+    encode(&text::read(description).expect("a description of document 01"))
+}
+
+/// Diamond D.
+pub fn diamond(deadline: u32) -> Block {
+    let mut block = text::read(include_str!("../../examples/diamond.text")).expect("the diamond");
+    block.deadline = deadline;
+    block
+}
+
+/// Two gates in parallel between stepless gates of delay 0; each given by delay and steps.
+fn frame(one: &str, other: &str) -> Vec<u8> {
+    file(&format!(
+        "block arrival 0 deadline 99 p 128\ngate 0 delay 0 p 128\ngate 1 {one}\ngate 2 {other}\ngate 3 delay 0 p 128\nwires 0-1 0-2 1-3 2-3\n"
+    ))
+}
+
+fn chain_of_two(deadline: u32) -> Vec<u8> {
+    file(&format!(
+        "block arrival 0 deadline {deadline} p 128\ngate 0 delay 1 p 128 steps (4,3)\ngate 1 delay 1 p 128 steps (4,3)\nwires 0-1\n"
+    ))
+}
+
+/// Gates without delay and steps, and these wires.
+fn only_wires(gates: usize, wires: &str) -> Vec<u8> {
+    let lines: String = (0..gates).map(|g| format!("gate {g} delay 0 p 128\n")).collect();
+    file(&format!("block arrival 0 deadline 9 p 128\n{lines}wires {wires}\n"))
+}
+
+fn diamonds() -> Vec<Worked> {
+    use Expected::*;
+    let at = |deadline| encode(&diamond(deadline));
+    let printed = "gates 4 wires 4\nstart 7 spare 3\nsaving 1441792\n0 2 0 3\n1 3 0 3\n2 1 2 5\n3 2 3 3\n";
+    vec![
+        worked(
+            "D with deadline 10",
+            at(10),
+            vec![
+                Best(&[0, 0, 2, 3], 44 * U),
+                Judged(&[0, 0, 0, 3], 36 * U),
+                NotJudged(&[0, 0, 2, 4], 14, 0),
+                NotJudged(&[0, 6, 0, 0], 13, 1),
+                Printed(printed),
+            ],
+        ),
+        worked("D with deadline 14", at(14), vec![Best(&[0, 2, 4, 5], 2_818_048), Best(&[0, 2, 4, 5], 86 * U)]),
+        worked("D with deadline 7", at(7), vec![Best(&[0, 0, 2, 0], 8 * U)]),
+        worked("D with deadline 6", at(6), vec![Refused(12, 0), Printed("refused 12 0\n")]),
+    ]
+}
+
+fn paper() -> Vec<Worked> {
+    use Expected::*;
+    let first = "delay 3 p 128 steps (3,28) (5,24) (3,21)";
+    let second = "delay 2 p 128 steps (2,24) (4,23)";
+    vec![
+        worked(
+            "001's chain",
+            file(include_str!("../../examples/chain.text")),
+            vec![Pairs(&[(3, 28 * U), (9, 26 * U), (7, 24 * U), (4, 23 * U), (3, 21 * U)])],
+        ),
+        worked(
+            "001's parallel gates",
+            frame(first, second),
+            vec![Curve(3, 24 * U, &[(1, 52 * U), (2, 51 * U), (2, 47 * U), (3, 24 * U), (3, 21 * U)])],
+        ),
+        worked(
+            "the same frame, delays 9 and 1",
+            frame("delay 9 p 128", "delay 1 p 128 steps (3,4)"),
+            vec![AtStart(12 * U), Best(&[0, 0, 3, 0], 12 * U)],
+        ),
+    ]
+}
+
+/// Every block of document 01's list with its answers; the limits of the list's last line stand among the boundaries.
+pub fn all() -> Vec<Worked> {
+    use Expected::*;
+    let lone = "block arrival 0 deadline 8 p 128\ngate 0 delay 5 p 128 steps (2,3)\n";
+    let still = "block arrival 0 deadline 8 p 0\ngate 0 delay 1 p 128 steps (4,9)\ngate 1 delay 1 p 128 steps (4,1)\nwires 0-1\n";
+    let mut all = vec![worked("empty file", Vec::new(), vec![Refused(1, 0), Printed("refused 1 0\n")])];
+    all.extend(diamonds());
+    all.push(worked("one gate", file(lone), vec![Best(&[2], 6 * U)]));
+    all.push(worked("chain of two, deadline 5", chain_of_two(5), vec![Best(&[0, 3], 9 * U)]));
+    all.push(worked("chain of two, deadline 8", chain_of_two(8), vec![Best(&[2, 4], 18 * U)]));
+    all.push(worked("bridge", only_wires(4, "0-1 0-2 1-2 1-3 2-3"), vec![Refused(11, 0)]));
+    all.push(worked("a wire beside a chain", only_wires(3, "0-1 1-2 0-2"), vec![SeriesParallel]));
+    all.extend(paper());
+    all.push(worked("p of 0 at the input", file(still), vec![Best(&[0, 4], 4 * U)]));
+    all
+}
