@@ -8,6 +8,7 @@ pub mod Signed
 pub mod Source
 pub mod Turned
 pub mod Slack
+pub mod SameDelays
 pub mod Answer
 pub mod Fields
 pub mod Every
