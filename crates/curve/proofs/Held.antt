@@ -1,0 +1,102 @@
+-- Takings from a curve that two slices hold: where its widths and gains stand in front, their pairs are the curve's; the pair of a position is read off the slices; past the end of the pairs, and past the end of either slice, nothing is earned.
+-- Assumes nothing.
+use mathlib.Core.Path.{_≡_, refl, sym, _∙_, ap}
+use mathlib.Core.Logic.{_⊎_, inl, inr}
+use mathlib.Core.List.{List, map}
+use Prim.Native.Nat.{ℕ, _+_, _*_, _-_, _≤_, _<_, min}
+use native.Mathlib.Nat.{mul-zero, min-eq-left, min-eq-right, le-of-lt}
+use native.Mathlib.Omega.{arith}
+use lib.ListN.{length, getD, length-map, List·getD-eq-default, List·getD-map}
+use lib.Seq.{ext-getD}
+use Rattle.lists.proofs.Compare.{le-or-lt}
+use Rattle.lists.specs.Over.{build, over}
+use Rattle.lists.proofs.Over.{length-build, getD-build, build-same, getD-over-front}
+use Rattle.model.specs.Curve.{Pair}
+use Rattle.curve.specs.declared.position.Position.{Position}
+use Rattle.curve.specs.declared.position.Taken.{Taken}
+use Rattle.curve.specs.Position.{pair-at, pairs-in, no-pair, here, left-at, none-at, taken-at}
+use Rattle.curve.proofs.Taking.{Taking, past, within, beyond, taking, taken-past, taken-within, taken-beyond}
+
+all-built : (ps : List Pair) → build (length ps) (λ (i : ℕ). getD ps i no-pair) ≡ ps
+all-built ps =
+    ext-getD no-pair (build (length ps) (λ (i : ℕ). getD ps i no-pair)) ps (length-build (length ps) (λ (i : ℕ). getD ps i no-pair))
+    (λ i h. getD-build (length ps) (λ (j : ℕ). getD ps j no-pair) i no-pair (rw length-build at h))
+
+in-front : (f : Pair → ℕ) (ps : List Pair) (old : List ℕ) (i : ℕ) → f no-pair ≡ 0 → i < length ps → getD (over (map f ps) old) i 0 ≡ f (getD ps i no-pair)
+in-front f ps old i e h = getD-over-front (map f ps) old i 0 (rw length-map h) ∙ rw e at (List·getD-map f ps i no-pair)
+
+-- where slices hold a curve's widths and gains in front, their pairs are the curve's
+pub pairs-held : (ps : List Pair) (ws gs : List ℕ) → pairs-in (length ps) (over (map (λ (q : Pair). q .width) ps) ws) (over (map (λ (q : Pair). q .gain) ps) gs) ≡ ps
+pairs-held ps ws gs =
+    build-same (length ps) (pair-at (over (map (λ (q : Pair). q .width) ps) ws) (over (map (λ (q : Pair). q .gain) ps) gs)) (λ (i : ℕ). getD ps i no-pair)
+    (λ (i : ℕ) (h : i < length ps). rw (in-front (λ (q : Pair). q .width) ps ws i refl h, in-front (λ (q : Pair). q .gain) ps gs i refl h))
+    ∙ all-built ps
+
+-- every gain is one of the slice, or 0
+pub gains-at-most : (g n : ℕ) (ws gs : List ℕ) → ((i : ℕ) → getD gs i 0 ≤ g) → (i : ℕ) → getD (pairs-in n ws gs) i no-pair .gain ≤ g
+gains-at-most g n ws gs b i = go (le-or-lt n i)
+  where
+    go : (n ≤ i) ⊎ (i < n) → getD (pairs-in n ws gs) i no-pair .gain ≤ g
+    go (inl h) =
+        let past : length (pairs-in n ws gs) ≤ i = rw length-build h in
+        rw (List·getD-eq-default (pairs-in n ws gs) no-pair past) (omega arith)
+    go (inr h) = rw (getD-build n (pair-at ws gs) i no-pair h) (b i)
+
+module _ (n : ℕ) (ws gs : List ℕ) (p : Position) where
+  -- past the last pair nothing is taken
+  pub past-pairs : (k : ℕ) → n ≤ p .pair → taken-at (pairs-in n ws gs) p k ≡ none-at p
+  past-pairs k h = taken-past (pairs-in n ws gs) p k (rw length-build h)
+
+  here-in : p .pair < n → here (pairs-in n ws gs) p ≡ pair-at ws gs (p .pair)
+  here-in h = getD-build n (pair-at ws gs) (p .pair) no-pair h
+
+  earns-nothing : (k : ℕ) {t : Taken} → here (pairs-in n ws gs) p .gain ≡ 0 → Taking (pairs-in n ws gs) p k t → t .gain ≡ 0
+  earns-nothing k e (past h) = refl
+  earns-nothing k e (within h l) = rw e (mul-zero k)
+  earns-nothing k e (beyond h l) = rw e (mul-zero (left-at (pairs-in n ws gs) p))
+
+  takes-nothing : (k : ℕ) {t : Taken} → here (pairs-in n ws gs) p .width ≡ 0 → Taking (pairs-in n ws gs) p k t → t .ticks ≡ 0
+  takes-nothing k e (past h) = refl
+  takes-nothing k e (within h l) = omega arith
+  takes-nothing k e (beyond h l) = omega arith
+
+  -- past the end of the gains nothing is earned
+  pub past-gains : (k : ℕ) → length gs ≤ p .pair → taken-at (pairs-in n ws gs) p k .gain ≡ 0
+  past-gains k h = go (le-or-lt n (p .pair))
+    where
+      go : (n ≤ p .pair) ⊎ (p .pair < n) → taken-at (pairs-in n ws gs) p k .gain ≡ 0
+      go (inl l) = rw (past-pairs k l)
+      go (inr l) = earns-nothing k (ap (λ (q : Pair). q .gain) (here-in l) ∙ List·getD-eq-default gs 0 h) (taking (pairs-in n ws gs) p k)
+
+  -- past the end of the widths no tick is taken, and so nothing is earned
+  pub past-widths : (k : ℕ) → length ws ≤ p .pair → taken-at (pairs-in n ws gs) p k .ticks ≡ 0
+  past-widths k h = go (le-or-lt n (p .pair))
+    where
+      go : (n ≤ p .pair) ⊎ (p .pair < n) → taken-at (pairs-in n ws gs) p k .ticks ≡ 0
+      go (inl l) = rw (past-pairs k l)
+      go (inr l) = takes-nothing k (ap (λ (q : Pair). q .width) (here-in l) ∙ List·getD-eq-default ws 0 h) (taking (pairs-in n ws gs) p k)
+
+  -- What the code reads and computes at a position: what is left of its pair, how many ticks are taken of k, what they earn.
+  pub record Computed (k left taken earned : ℕ) : Type 0 where
+    pub inside : p .pair < n
+    pub left-is : left ≡ left-at (pairs-in n ws gs) p
+    pub taken-is : taken ≡ min k left
+    pub earned-is : earned ≡ taken * here (pairs-in n ws gs) p .gain
+
+  pub computed : (k w left taken g earned : ℕ) → p .pair < n → w ≡ getD ws (p .pair) 0 → left ≡ w - p .used → taken ≡ min k left → g ≡ getD gs (p .pair) 0 → earned ≡ taken * g → Computed k left taken earned
+  computed k w left taken g earned h ew el et eg ee =
+      record { inside = h; left-is = el ∙ rw (ew, here-in h); taken-is = et; earned-is = ee ∙ rw (eg, here-in h) }
+
+  -- that is the taking where the ticks stay within the pair ..
+  pub taken-stays : (k left taken earned : ℕ) → Computed k left taken earned → k ≤ left
+      → record { next = record { pair = p .pair; used = p .used + k }; ticks = taken; gain = earned } ≡ taken-at (pairs-in n ws gs) p k
+  taken-stays k left taken earned c l =
+      let t : taken ≡ k = c .taken-is ∙ min-eq-left l in
+      rw (c .earned-is, t) (sym (taken-within (pairs-in n ws gs) p k (rw length-build (c .inside)) (rw (c .left-is) at l)))
+
+  -- .. and where they go beyond it
+  pub taken-moves : (k left taken earned : ℕ) → Computed k left taken earned → left < k
+      → record { next = record { pair = p .pair + 1; used = 0 }; ticks = taken; gain = earned } ≡ taken-at (pairs-in n ws gs) p k
+  taken-moves k left taken earned c l =
+      let t : taken ≡ left-at (pairs-in n ws gs) p = c .taken-is ∙ min-eq-right (le-of-lt l) ∙ c .left-is in
+      rw (c .earned-is, t) (sym (taken-beyond (pairs-in n ws gs) p k (rw length-build (c .inside)) (rw (c .left-is) at l)))

@@ -1,0 +1,6 @@
+pub mod Product
+pub mod Taking
+pub mod Held
+pub mod Walk
+pub mod Counting
+pub mod Step

@@ -1,0 +1,86 @@
+// A position on a curve, by value: each taking of ticks hands back the next position and the gain taken.
+ghost use mathlib.Core.Path.{_≡_};
+ghost use Rattle.curve.specs.Position.{pairs-in, at-front, taken-at, walked};
+use crate::number::element;
+use crate::number::left_of;
+use crate::number::product;
+use crate::number::smaller;
+
+// A place on a curve: a pair, and how many of its ticks are used.
+pub struct Position {
+    pub pair: usize,
+    pub used: u32,
+}
+
+// What a taking hands back: the next position, how many ticks were taken, and what they earn.
+pub struct Taken {
+    pub next: Position,
+    pub ticks: u32,
+    pub gain: u64,
+}
+
+impl Position {
+    // The front of a curve.
+    pub fn front() -> Self
+        ensures { λ r. ⌜ r ≡ at-front ⌝ }
+    {
+        Self { pair: 0, used: 0 }
+    }
+
+    // At most `ticks` ticks of the pair that the position stands in; none past the end.
+    pub fn take(self, widths: &[u32], gains: &[u32], pairs: usize, ticks: u32) -> Taken
+        ensures { λ r. ⌜ r ≡ taken-at (pairs-in pairs (now (widths .entry)) (now (gains .entry))) self ticks ⌝ }
+    {
+        let pair = self.pair;
+        let used = self.used;
+        if pairs <= pair {
+            return Taken {
+                next: self,
+                ticks: 0,
+                gain: 0,
+            };
+        }
+        let next = pair + 1;
+        let left = left_of(element(widths, pair), used);
+        let taken = smaller(ticks, left);
+        let gain = product(taken, element(gains, pair));
+        if ticks <= left {
+            return Taken {
+                next: Position {
+                    pair,
+                    used: used + ticks,
+                },
+                ticks: taken,
+                gain,
+            };
+        }
+        Taken {
+            next: Position {
+                pair: next,
+                used: 0,
+            },
+            ticks: taken,
+            gain,
+        }
+    }
+
+    // `ticks` ticks pair after pair, or all up to the end of the curve.
+    pub fn advance(self, widths: &[u32], gains: &[u32], pairs: usize, ticks: u32) -> Taken
+        ensures { λ r. ⌜ r ≡ walked pairs (pairs-in pairs (now (widths .entry)) (now (gains .entry))) self ticks ⌝ }
+    {
+        let mut next = self;
+        let mut left = ticks;
+        let mut gain: u64 = 0;
+        while 0 < left && next.pair < pairs {
+            let taken = next.take(widths, gains, pairs, left);
+            next = taken.next;
+            left -= taken.ticks;
+            gain += taken.gain;
+        }
+        Taken {
+            next,
+            ticks: ticks - left,
+            gain,
+        }
+    }
+}

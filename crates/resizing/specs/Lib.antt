@@ -1,0 +1,2 @@
+pub mod HeldFile
+pub mod Slowed
