@@ -10,7 +10,7 @@ use Rattle.lists.proofs.Bool.{is-true}
 use Rattle.model.specs.declared.Field.{Field}
 use Rattle.model.specs.declared.Refusal.{Refusal}
 use Rattle.model.specs.Field.{field-at, body-at, body-to}
-use Rattle.model.specs.File.{Due, Value, Reading, found, refused, length-fits, says, in-range, fault-of, fault, read-field}
+use Rattle.model.specs.File.{Due, found, refused, length-fits, says, in-range, fault-of, fault, read-field}
 use Rattle.model.specs.Answer.{refusal, refusal-answer}
 use Rattle.model.proofs.Fields.{length-body}
 use Rattle.model.proofs.Fault.{faultless-from-0, fault-at-most-6, read-found, read-refused}

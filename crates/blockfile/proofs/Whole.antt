@@ -1,7 +1,7 @@
 -- The whole file: what its block field, its gates and its wires were read to, is what `read-block` says.
 -- Assumes nothing.
 use mathlib.Core.Path.{_≡_, sym, _∙_, ap}
-use mathlib.Core.Bool.{Bool, _&&_}
+use mathlib.Core.Bool.{_&&_}
 use mathlib.Core.List.{List, [], map}
 use Prim.Native.Nat.{ℕ, _+_, _≤_}
 use native.Mathlib.Omega.{arith}
@@ -11,10 +11,10 @@ use lib.ListN.{length, getD}
 use Rattle.lists.proofs.Bool.{and-left, and-right}
 use Rattle.model.specs.declared.Refusal.{Refusal}
 use Rattle.model.specs.Limits.{max-wires}
-use Rattle.model.specs.Block.{Gate, Wire, Block}
-use Rattle.model.specs.Netlist.{DrawnGate, Netlist, gate-of, block-of}
+use Rattle.model.specs.Block.{Gate, Wire}
+use Rattle.model.specs.Netlist.{Netlist, gate-of, block-of}
 use Rattle.model.specs.Field.{number}
-use Rattle.model.specs.File.{Due, block, Header, says, in-range, Reading, found, refused, read-field, read-gates, read-wires, decode, read-block, netlist}
+use Rattle.model.specs.File.{block, says, in-range, found, read-field, read-gates, read-wires, decode, read-block, netlist}
 use Rattle.model.specs.Activity.{activity}
 use Rattle.model.specs.Answer.{refusal, refusal-answer}
 use Rattle.model.proofs.Reading.{read-gates-inside, decode-block-refused, decode-gates-refused, decode-wires-refused, decode-found}

@@ -4,7 +4,7 @@ use mathlib.Core.List.{List, _∷_}
 use Prim.Native.Nat.{ℕ}
 use lib.ListN.{length, getD}
 use Rattle.model.specs.declared.Refusal.{Refusal}
-use Rattle.model.specs.Block.{Gate, Wire, Block}
+use Rattle.model.specs.Block.{Wire, Block}
 use Rattle.model.specs.Netlist.{gate-of}
 use Rattle.model.specs.File.{Reading, found, refused, gate, wire, read-field}
 use Rattle.model.specs.Answer.{refusal-answer}

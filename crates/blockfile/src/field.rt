@@ -1,4 +1,4 @@
-// The fields of a block file, on a slice and an offset.
+// The fields of a block file, on a slice and an offset. `field_at` and `field_body` take any file and any offset; the other two are public for the crate's own files.
 ghost use mathlib.Core.Path.{_≡_};
 ghost use Prim.Native.Nat.{_+_, _<_, _≤_};
 ghost use lib.ListN.{length};
@@ -44,7 +44,7 @@ pub fn field_at(file: &[u8], offset: usize) -> Field
     Field::Whole {
         tag: file[offset],
         from,
-        to: from + length,
+        to: offset + HEADER_BYTES + length,
     }
 }
 

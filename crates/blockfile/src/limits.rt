@@ -1,34 +1,38 @@
 // Tags, lengths and ranges of the fields of edition 1. They stand here and nowhere else in the code.
+// These functions are public for `fault`, `store` and `read` alone.
 ghost use mathlib.Core.Path.{_≡_};
 ghost use mathlib.Core.Bool.{true};
 ghost use mathlib.Core.List.{[]};
-ghost use Prim.Native.Nat.{_+_, _*_, _<_, _≤_, _%_};
+ghost use Prim.Native.Nat.{_+_, _*_, _≤_, _%_};
 ghost use lib.ListN.{length};
 ghost use Rattle.model.specs.File.{block, gate, wire, tag-of, length-fits, says, in-range, step-in-range, every, steps-in, falls};
 ghost use Rattle.blockfile.specs.Kinds.{kind, step-of};
 use crate::field::number_at;
 
+// The block: edition, gates and bytes.
 const EDITION: u8 = 1;
 
-const MAX_GATES: u8 = 64;
+pub const MAX_GATES: u8 = 64;
 
+const BLOCK_BYTES: usize = 8;
+// A probability is in 256ths.
 const MAX_PROBABILITY: u32 = 256;
-
+// A gate: delay and probability, then as many steps as there are, each of a width and a drop.
 const MAX_DELAY: u32 = 4095;
 
 const MAX_WIDTH: u32 = 4095;
 
 const MAX_DROP: u32 = 1000;
 
-const BLOCK_BYTES: usize = 8;
+pub const MAX_STEPS: usize = 8;
 
-const WIRE_BYTES: usize = 2;
-// A gate's body: delay and probability, then as many steps as there are.
 pub const GATE_BYTES: usize = 4;
 
 pub const STEP_BYTES: usize = 4;
+// The wires, and the bytes of each.
+pub const MAX_WIRES: usize = 256;
 
-pub const MAX_STEPS: usize = 8;
+const WIRE_BYTES: usize = 2;
 
 // What is due at a place of the file.
 pub enum Due {

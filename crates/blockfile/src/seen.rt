@@ -1,16 +1,18 @@
 // The pairs of gates that wires have joined, as a table of bytes: the byte at 64 times the source plus the target is not 0 once a wire stood there.
+// These functions are public for `fault` and `read` alone.
 ghost use mathlib.Core.Path.{_≡_};
 ghost use mathlib.Core.List.{List, [], _∷_};
-ghost use Prim.Native.Nat.{_+_, _*_, _<_, _≤_};
+ghost use Prim.Native.Nat.{_<_, _≤_};
 ghost use lib.ListN.{length, getD};
 ghost use Rattle.model.specs.Block.{Wire};
 ghost use Rattle.model.specs.File.{wire, says, fresh};
 ghost use Rattle.blockfile.specs.Seen.{pairs, pair-place, between, Marks};
+use crate::limits::MAX_GATES;
 
 // Gates of a block, at most, and pairs of them.
-const GATES: usize = 64;
+const GATES: usize = MAX_GATES as usize;
 
-const PAIRS: usize = 4096;
+const PAIRS: usize = GATES * GATES;
 
 // The place of a pair of gates.
 pub fn pair_place(source: u8, target: u8) -> usize

@@ -12,13 +12,12 @@ use lib.ListN.{length, getD, set, length-set}
 use lib.Seq.{getD-set-same, getD-set-other}
 use Rattle.model.specs.Block.{Wire}
 use Rattle.model.specs.Part.{Shape, series}
-use Rattle.parts.specs.Slots.{slot, empty, Live, Between, Step, alone, onto, live-count}
+use Rattle.parts.specs.Slots.{slot, empty, Live, Between, Step, alone, onto, live-count, Straight}
 use Rattle.parts.specs.Nodes.{Tree, chain, beside, Nodes, node-tree, shape-of, Weighed, tree-of}
 use Rattle.parts.specs.Sought.{Leads}
 use Rattle.parts.specs.Arrays.{Arrays, held-at, held, Formed, Room, Chosen, add-node, add-series, joined, taken-up}
 use Rattle.parts.proofs.Nodes.{tree-at, SameNode, grown}
 use Rattle.parts.proofs.Steps.{count-lt}
-use Rattle.parts.specs.Slots.{Straight}
 use Rattle.parts.proofs.Reduce.{straight-ends}
 
 -- One node more.
@@ -60,11 +59,11 @@ module _ (N : Nodes) (c x l g r : ℕ) where
         go (no n) = let s = add-node-same j (omega arith) in rw (s .kind, s .left, s .right) (h j (omega arith))
 
 -- The slots held.
-held-in : (k : ℕ) (A : Arrays) (i : ℕ) → i < k → held k A i ≡ held-at true A i
+pub held-in : (k : ℕ) (A : Arrays) (i : ℕ) → i < k → held k A i ≡ held-at true A i
 unfolding held
 held-in k A i h = ap (λ b. held-at b A i) (lt-ltb i k h)
 
-held-out : (k : ℕ) (A : Arrays) (i : ℕ) → k ≤ i → held k A i ≡ empty
+pub held-out : (k : ℕ) (A : Arrays) (i : ℕ) → k ≤ i → held k A i ≡ empty
 unfolding held
 held-out k A i h = ap (λ b. held-at b A i) (le-ltb i k h)
 
@@ -76,8 +75,11 @@ held-live k A i l = go (decLt i k)
     go (no n) = absurd (false≢true (ap (λ s. s .live) (sym (held-out k A i (omega arith))) ∙ l))
 
 -- a live slot held
-held-slot : (k : ℕ) (A : Arrays) {i a b : ℕ} {P : Shape} → i < k → getD (A .lives) i 0 ≡ 1 → getD (A .froms) i 0 ≡ a → getD (A .tos) i 0 ≡ b → shape-of (tree-of (A .tree) (getD (A .tops) i 0)) ≡ P → held k A i ≡ slot a P b
+pub held-slot : (k : ℕ) (A : Arrays) {i a b : ℕ} {P : Shape} → i < k → getD (A .lives) i 0 ≡ 1 → getD (A .froms) i 0 ≡ a → getD (A .tos) i 0 ≡ b → shape-of (tree-of (A .tree) (getD (A .tops) i 0)) ≡ P → held k A i ≡ slot a P b
 held-slot k A {i} h l f t s = held-in k A i h ∙ (λ z. record { live = eq-eqb (getD (A .lives) i 0) 1 l z; source = f z; target = t z; shape = s z })
+
+pub held-alive : (k : ℕ) (A : Arrays) (i : ℕ) → i < k → getD (A .lives) i 0 ≡ 1 → Live (held k A i)
+held-alive k A i h l = ap (λ s. s .live) (held-slot k A h l refl refl refl)
 
 -- a dead slot held
 held-dead : (k : ℕ) (A : Arrays) (i : ℕ) → (getD (A .lives) i 0 ≡ 1 → ⊥) → ¬ (Live (held k A i))
@@ -113,7 +115,7 @@ cleared-was xs j q h e = go (ℕ-discrete q j)
     go (yes f) = absurd (cleared-dead xs j h (subst (λ z. getD (set xs j 0) z 0 ≡ 1) f e))
     go (no n) = (n, sym (getD-set-other xs j q 0 0 n) ∙ e)
 
-held-ends : (k : ℕ) (A : Arrays) (i : ℕ) → i < k → (held k A i .source ≡ getD (A .froms) i 0) × (held k A i .target ≡ getD (A .tos) i 0)
+pub held-ends : (k : ℕ) (A : Arrays) (i : ℕ) → i < k → (held k A i .source ≡ getD (A .froms) i 0) × (held k A i .target ≡ getD (A .tos) i 0)
 held-ends k A i h = (ap (λ s. s .source) (held-in k A i h), ap (λ s. s .target) (held-in k A i h))
 
 -- A gate with one slot in and one slot out, in arrays that have room for more nodes.
@@ -316,8 +318,5 @@ module _ {ws : List Wire} {k c : ℕ} {A : Arrays} {m i j l : ℕ} (ch : Chosen 
 -- One flag put to 0 leaves fewer slots live.
 pub held-fewer : (k : ℕ) (A B : Arrays) (j : ℕ) → j < k → j < length (A .lives) → getD (A .lives) j 0 ≡ 1 → B .lives ≡ set (A .lives) j 0 → live-count k (held k B) < live-count k (held k A)
 held-fewer k A B j h n l e =
-    count-lt (held k A) (held k B) k j h (alive j h l) (held-dead k B j (λ v. cleared-dead (A .lives) j n (ap (λ xs. getD xs j 0) (sym e) ∙ v)))
-    (λ q v. let (hq, x) = held-live k B q v in alive q hq (cleared-was (A .lives) j q n (ap (λ xs. getD xs q 0) (sym e) ∙ x) .1))
-  where
-    alive : (q : ℕ) → q < k → getD (A .lives) q 0 ≡ 1 → Live (held k A q)
-    alive q hq v = ap (λ s. s .live) (held-slot k A hq v refl refl refl)
+    count-lt (held k A) (held k B) k j h (held-alive k A j h l) (held-dead k B j (λ v. cleared-dead (A .lives) j n (ap (λ xs. getD xs j 0) (sym e) ∙ v)))
+    (λ q v. let (hq, x) = held-live k B q v in held-alive k A q hq (cleared-was (A .lives) j q n (ap (λ xs. getD xs q 0) (sym e) ∙ x) .1))

@@ -14,4 +14,6 @@ pub mod MarkLaws
 pub mod SoughtLaws
 pub mod Held
 pub mod TakeLaws
-pub mod Rounds
+pub mod RoundLaws
+pub mod LayLaws
+pub mod FinishLaws

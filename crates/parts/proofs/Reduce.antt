@@ -14,16 +14,15 @@ use lib.Seq.{getD-set-same, getD-set-other}
 use Rattle.model.specs.Block.{Block, gate-count, first, last, Joined}
 use Rattle.model.specs.Part.{Shape, series, SeriesParallel}
 use Rattle.parts.specs.Reduction.{Only}
-use Rattle.parts.specs.Slots.{Slot, slot, empty, Live, OneIn, OneOut, Between, Step, alone, onto, Finished, slots, wire-slots, initial, live-count}
-use Rattle.parts.specs.Slots.{Straight}
+use Rattle.parts.specs.Slots.{Slot, slot, empty, Live, OneIn, OneOut, Between, Step, alone, onto, Finished, slots, wire-slots, initial, live-count, Straight}
 use Rattle.parts.specs.Network.{Network}
 use Rattle.parts.specs.Reduce.{find, is-some, sole, slot-in, slot-out, slot-between, goes, join, taken-at, taken-away, next, reduce, remainder, reducible}
-use Rattle.parts.proofs.Gates.{part-ends, wire-in}
+use Rattle.parts.proofs.Gates.{part-ends}
 use Rattle.parts.specs.Invariant.{Reducing}
 use Rattle.parts.proofs.State.{LoopFree, live-slot}
 use Rattle.parts.proofs.Steps.{step-keeps, step-shrinks, shrinks, bit-le, count-lt}
 use Rattle.parts.proofs.Start.{loop-free, initial-live, start}
-use Rattle.parts.proofs.Verdict.{answer}
+use Rattle.parts.proofs.Verdict.{one-in-below, answer}
 use Rattle.parts.proofs.Search.{and-iff, or-iff, Finds, find-finds, FindsSole, sole-finds}
 
 -- a live slot stands in the list
@@ -209,7 +208,7 @@ module _ {E : ℕ → ℕ → Type 0} (free : LoopFree E) where
           let t = taken-step L a b m r (g .1) in
           ih (taken-away L m) (step-keeps free t r) (λ k l. all k (shrinks t .none-new k l)) (omega (arith, step-shrinks w all t))
 
-count-bound : (n : ℕ) (S : ℕ → Slot) → live-count n S ≤ n
+pub count-bound : (n : ℕ) (S : ℕ → Slot) → live-count n S ≤ n
 unfolding live-count
 count-bound zero S = omega arith
 count-bound (suc n) S = omega (arith, bit-le (S n .live) true (λ e. refl), count-bound n S)
@@ -222,12 +221,8 @@ reducible-verdict {B} n = (λ h. both .0 (there (or-iff _ _ .0 h)), λ p. or-iff
     end : Reducing (Joined (B .wires)) (slots (remainder B)) × ((m : ℕ) → m < gate-count B → m ≢ first B → m ≢ last B → OneIn (slots (remainder B)) m → OneOut (slots (remainder B)) m → ⊥)
     end = reduces (loop-free n) (length (B .wires)) (first B) (last B) (gate-count B) (length (B .wires)) (wire-slots (B .wires)) (start n) (initial-live (B .wires)) (count-bound (length (B .wires)) (initial (B .wires)))
 
-    -- a gate with a slot in is a gate of the block
     finished : Finished (slots (remainder B)) (first B) (last B)
-    finished m d e i o =
-        let s = slots (remainder B) (i .value) in
-        let (x, h) = wire-in (s .shape) (s .source) (s .target) in
-        end .1 m (subst (λ g. g < gate-count B) (i .holds .1) (n .below x (s .target) (end .0 .reduced .fits (i .value) (i .holds .0) .wires x (s .target) h) .1)) d e i o
+    finished m d e i o = end .1 m (one-in-below n (end .0) i) d e i o
 
     both : ((gate-count B ≡ 1) ⊎ Only (λ i. Live (slots (remainder B) i))) ↔ SeriesParallel B
     both = answer n (end .0) finished

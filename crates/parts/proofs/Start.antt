@@ -3,14 +3,14 @@ use mathlib.Core.Path.{_≡_, refl, sym, _∙_, ap, subst, subst₂}
 use mathlib.Core.Logic.{_≢_}
 use mathlib.Core.Bool.{false≢true}
 use mathlib.Core.List.{List, [], _∷_, List·Memᴰ, List·Memᴰ·head, List·Memᴰ·tail, List·Memᴰ·not-nil}
-use Prim.Native.Nat.{ℕ, zero, suc, _<_}
+use Prim.Native.Nat.{ℕ, zero, suc, _≤_, _<_}
 use native.Mathlib.Omega.{arith}
 use lib.ListN.{length}
 use Rattle.model.specs.Block.{Wire, Block, Joined}
 use Rattle.model.specs.Part.{wire}
 use Rattle.model.specs.Path.{Reaches, step, on}
 use Rattle.parts.specs.Reduction.{Thru, direct, through, done}
-use Rattle.parts.specs.Slots.{Slot, slot, Live, Carries, wire-slots, initial}
+use Rattle.parts.specs.Slots.{Slot, slot, empty, Live, Carries, wire-slots, initial}
 use Rattle.parts.specs.Network.{wire-at, Network}
 use Rattle.parts.specs.Invariant.{Fits, Apart, Reducing}
 use Rattle.parts.proofs.State.{LoopFree}
@@ -35,6 +35,12 @@ unfolding wire-slots
 initial-live [] i l = absurd (false≢true l)
 initial-live (w ∷ ws) zero l = omega arith
 initial-live (w ∷ ws) (suc i) l = omega (arith, initial-live ws i l)
+
+pub initial-beyond : (ws : List Wire) (i : ℕ) → length ws ≤ i → initial ws i ≡ empty
+unfolding wire-slots
+initial-beyond [] i h = refl
+initial-beyond (w ∷ ws) zero h = absurd (omega arith)
+initial-beyond (w ∷ ws) (suc i) h = initial-beyond ws i (omega arith)
 
 pub stands-at : (ws : List Wire) (i : ℕ) → i < length ws → List·Memᴰ (wire-at ws i) ws
 stands-at [] i h = absurd (omega arith)

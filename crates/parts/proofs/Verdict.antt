@@ -10,7 +10,7 @@ use Rattle.model.specs.Block.{Wire, Block, gate-count, first, last, Joined}
 use Rattle.model.specs.Part.{Shape, Inside, HasGate, HasWire, Part, Whole, SeriesParallel, lone, built}
 use Rattle.model.specs.Path.{step}
 use Rattle.parts.specs.Reduction.{Thru, direct, through, Only, Stuck}
-use Rattle.parts.specs.Slots.{Slot, Live, Carries, Finished}
+use Rattle.parts.specs.Slots.{Slot, Live, Carries, OneIn, Finished}
 use Rattle.parts.specs.Network.{Network}
 use Rattle.parts.proofs.Gates.{wire-ends, wire-gates, enters-none, leaves-none, wire-out, wire-in}
 use Rattle.parts.proofs.Clearing.{inside-taken}
@@ -30,56 +30,58 @@ module _ {B : Block} {S : ℕ → Slot} (n : Network B) (r : Reducing (Joined (B
       f m (λ e. let (x, w) = thru-wires (k .before .holds .1) .1 in n .first-none x (subst (Joined (B .wires) x) e w))
       (λ e. let (y, w) = thru-wires (k .after .holds .1) .0 in n .last-none y (subst (λ g. Joined (B .wires) g y) e w)) o p
 
-  -- Soundness: the part of the only slot is the whole block.
-  pub whole : (o : Only (λ i. Live (S i))) → Whole B (S (o .value) .shape)
-  whole o =
-      record {
-        part = subst₂ (λ x y. Part x y P) is-first is-last (fit .part);
-        wires = all-wires;
-        gates = λ g h. all-gates g h (ℕ-discrete g (first B));
-      }
-    where
-      P : Shape
-      P = S (o .value) .shape
+  -- a gate with a slot in is a gate of the block
+  pub one-in-below : {m : ℕ} → OneIn S m → m < gate-count B
+  one-in-below i =
+      let s = S (i .value) in
+      let (x, h) = wire-in (s .shape) (s .source) (s .target) in
+      subst (λ g. g < gate-count B) (i .holds .1) (n .below x (s .target) (r .reduced .fits (i .value) (i .holds .0) .wires x (s .target) h) .1)
 
-      a : ℕ
-      a = S (o .value) .source
+  -- The only slot's part has every wire of the block; so no wire enters its source and none leaves its target: they are the first gate and the last.
+  module _ (o : Only (λ i. Live (S i))) where
+    only-fits : Fits (Joined (B .wires)) (r .taken) (S (o .value))
+    only-fits = r .reduced .fits (o .value) (o .holds)
 
-      b : ℕ
-      b = S (o .value) .target
+    in-only : (x y : ℕ) → Joined (B .wires) x y → Carries (S (o .value)) x y
+    in-only x y w = let (i, l, h) = r .reduced .covered x y w in subst (λ k. Carries (S k) x y) (o .alone i l) h
 
-      fit : Fits (Joined (B .wires)) (r .taken) (S (o .value))
-      fit = r .reduced .fits (o .value) (o .holds)
+    pub only-first : S (o .value) .source ≡ first B
+    only-first = go (ℕ-discrete (S (o .value) .source) (first B))
+      where
+        go : Dec (S (o .value) .source ≡ first B) → S (o .value) .source ≡ first B
+        go (yes e) = e
+        go (no d) =
+            let s = S (o .value) in
+            let (y, h) = wire-out (s .shape) (s .source) (s .target) in
+            let (x, w) = n .wire-into (s .source) (n .below (s .source) y (only-fits .wires (s .source) y h) .0) d in
+            absurd (enters-none (s .shape) (s .source) (s .target) x (s .source) (only-fits .part) (in-only x (s .source) w) refl)
 
-      in-part : (x y : ℕ) → Joined (B .wires) x y → HasWire P a b x y
-      in-part x y w = let (i, l, h) = r .reduced .covered x y w in subst (λ k. Carries (S k) x y) (o .alone i l) h
+    pub only-last : S (o .value) .target ≡ last B
+    only-last = go (ℕ-discrete (S (o .value) .target) (last B))
+      where
+        go : Dec (S (o .value) .target ≡ last B) → S (o .value) .target ≡ last B
+        go (yes e) = e
+        go (no d) =
+            let s = S (o .value) in
+            let (x, h) = wire-in (s .shape) (s .source) (s .target) in
+            let (y, w) = n .wire-from (s .target) (n .below x (s .target) (only-fits .wires x (s .target) h) .1) d in
+            absurd (leaves-none (s .shape) (s .source) (s .target) (s .target) y (only-fits .part) (in-only (s .target) y w) refl)
 
-      is-first : a ≡ first B
-      is-first = go (ℕ-discrete a (first B))
-        where
-          go : Dec (a ≡ first B) → a ≡ first B
-          go (yes e) = e
-          go (no d) =
-              let (y, h) = wire-out P a b in
-              let (x, w) = n .wire-into a (n .below a y (fit .wires a y h) .0) d in
-              absurd (enters-none P a b x a (fit .part) (in-part x a w) refl)
+    only-wires : (x y : ℕ) → Joined (B .wires) x y ↔ HasWire (S (o .value) .shape) (first B) (last B) x y
+    only-wires x y = subst₂ (λ c d. Joined (B .wires) x y ↔ HasWire (S (o .value) .shape) c d x y) only-first only-last (in-only x y, only-fits .wires x y)
 
-      is-last : b ≡ last B
-      is-last = go (ℕ-discrete b (last B))
-        where
-          go : Dec (b ≡ last B) → b ≡ last B
-          go (yes e) = e
-          go (no d) =
-              let (x, h) = wire-in P a b in
-              let (y, w) = n .wire-from b (n .below x b (fit .wires x b h) .1) d in
-              absurd (leaves-none P a b b y (fit .part) (in-part b y w) refl)
-
-      all-wires : (x y : ℕ) → Joined (B .wires) x y ↔ HasWire P (first B) (last B) x y
-      all-wires x y = subst₂ (λ c d. Joined (B .wires) x y ↔ HasWire P c d x y) is-first is-last (in-part x y, fit .wires x y)
-
-      all-gates : (g : ℕ) → g < gate-count B → Dec (g ≡ first B) → HasGate P (first B) (last B) g
-      all-gates g h (yes e) = inl e
-      all-gates g h (no d) = let (x, w) = n .wire-into g h d in wire-gates P (first B) (last B) x g (all-wires x g .0 w) .1
+    -- Soundness: the part of the only slot is the whole block.
+    pub whole : Whole B (S (o .value) .shape)
+    whole =
+        record {
+          part = subst₂ (λ x y. Part x y (S (o .value) .shape)) only-first only-last (only-fits .part);
+          wires = only-wires;
+          gates = λ g h. all-gates g h (ℕ-discrete g (first B));
+        }
+      where
+        all-gates : (g : ℕ) → g < gate-count B → Dec (g ≡ first B) → HasGate (S (o .value) .shape) (first B) (last B) g
+        all-gates g h (yes e) = inl e
+        all-gates g h (no d) = let (x, w) = n .wire-into g h d in wire-gates (S (o .value) .shape) (first B) (last B) x g (only-wires x g .0 w) .1
 
   -- Completeness: if the whole block is a part, only one slot is live.
   only-slot : Finished S (first B) (last B) → (P : Shape) → Whole B P → Only (λ i. Live (S i))

@@ -4,7 +4,7 @@ use mathlib.Core.Logic.{_≢_}
 use Prim.Native.Nat.{ℕ, _+_, _≤_, _<_}
 use lib.ListN.{getD}
 use Rattle.model.specs.Block.{Block, gate-count, Joined}
-use Rattle.parts.specs.Slots.{live-count}
+use Rattle.parts.specs.Slots.{Finished, live-count}
 use Rattle.parts.specs.Invariant.{Reducing}
 use Rattle.parts.specs.Network.{Network}
 use Rattle.parts.specs.Arrays.{Arrays, held, Formed, Room, Chosen, Went}
@@ -32,3 +32,8 @@ pub record Ready (n k c : ℕ) (A : Arrays) : Type 0 where
 pub data Round (n k a b c : ℕ) (A B : Arrays) (r : ℕ) : Type 0 where
   rests : ((m i j : ℕ) → m < n → m ≢ a → m ≢ b → Chosen k A m i j → ⊥) → B ≡ A → r ≡ c → Round n k a b c A B r
   goes : (m i j : ℕ) → Chosen k A m i j → Went k c m i j A B r → c < r → Round n k a b c A B r
+
+-- The reduction's end, from the arrays A to the arrays B with r nodes: of whatever network A was the beginning, B is a moment at which no gate but a and b can go.
+pub record Ended (n k a b : ℕ) (A B : Arrays) (r : ℕ) : Type 0 where
+  pub ready : Ready n k r B
+  pub stands : (N : Block) → Network N → Going N n k k A → Going N n k r B × Finished (held k B) a b

@@ -9,3 +9,5 @@ pub mod Marks
 pub mod Sought
 pub mod Arrays
 pub mod Going
+pub mod Wired
+pub mod Answered

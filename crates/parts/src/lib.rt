@@ -1,4 +1,76 @@
 // The reduction of a block to its tree of parts, or the verdict that it is not series-parallel. Its mathematics stands in specs/ and proofs/.
 mod find;
+mod finish;
+mod lay;
 mod marks;
+mod rounds;
 mod take;
+
+use finish::pick;
+use lay::lay;
+use rounds::reduce;
+ghost use Prim.Native.Nat.{_+_, _^_, _≤_};
+ghost use lib.ListN.{length};
+ghost use Rattle.model.specs.Block.{Block};
+ghost use Rattle.parts.specs.Network.{Network};
+ghost use Rattle.parts.specs.Arrays.{arrays, Room};
+ghost use Rattle.parts.specs.Wired.{Wired, Given};
+ghost use Rattle.parts.specs.Answered.{Answered};
+
+// The root of the tree and the number of nodes; one gate without a wire; or not series-parallel.
+pub enum Answer {
+    Root(usize, usize),
+    Lone,
+    Unfit,
+}
+
+// Reduces a network of n gates and k wires, given by their ends and delays, to its tree in the arrays kind, left, gate, right. The other arrays are scratch.
+// Public for the crates above only: they have shown that the wires are those of a network.
+pub fn reduce_network(
+    from: &[u32],
+    to: &[u32],
+    delay: &[u32],
+    live: &mut [u32],
+    target: &mut [u32],
+    top: &mut [u32],
+    kind: &mut [u32],
+    left: &mut [u32],
+    gate: &mut [u32],
+    right: &mut [u32],
+    ins: &mut [u32],
+    outs: &mut [u32],
+    k: usize,
+    n: usize,
+) -> Answer
+    requires { ⌜ Given n k (now from) (now to) (now delay) ⌝ }
+    requires { ⌜ Room k (k + k) (arrays (now live) (now from) (now target) (now top) (now kind) (now left) (now gate) (now right)) ⌝ }
+    requires { ⌜ k ≤ length (now to) ⌝ }
+    requires { ⌜ k ≤ length (now delay) ⌝ }
+    requires { ⌜ n ≤ length (now ins) ⌝ }
+    requires { ⌜ n ≤ length (now outs) ⌝ }
+    requires { ⌜ n ≤ 2 ^ 32 ⌝ }
+    requires { ⌜ k + k + 2 ≤ 2 ^ 32 ⌝ }
+    ensures { λ r. ⌜ ((N : Block) → Network N → Wired N n k (now (from .entry)) (now (to .entry)) (now (delay .entry)) → Answered N (arrays (now (live .exit)) (now (from .entry)) (now (target .exit)) (now (top .exit)) (now (kind .exit)) (now (left .exit)) (now (gate .exit)) (now (right .exit)) .tree) r) ⌝ }
+{
+    if n == 1 {
+        return Answer::Lone;
+    }
+    lay(to, delay, live, target, top, kind, gate, k);
+    let nodes = reduce(
+        live,
+        from,
+        target,
+        top,
+        kind,
+        left,
+        gate,
+        right,
+        ins,
+        outs,
+        k,
+        n,
+        0,
+        n - 1,
+    );
+    pick(live, top, k, nodes)
+}

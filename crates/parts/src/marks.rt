@@ -1,6 +1,6 @@
 // Marks of gates: which of them have exactly one live slot at an end.
 ghost use mathlib.Core.Path.{_≡_};
-ghost use Prim.Native.Nat.{ℕ, _+_, _^_, _≤_, _<_};
+ghost use Prim.Native.Nat.{ℕ, _+_, _-_, _^_, _≤_, _<_};
 ghost use lib.ListN.{length, getD};
 ghost use Rattle.parts.specs.Marks.{bumped, marked, noted};
 
@@ -58,4 +58,13 @@ pub(crate) fn mark(live: &[u32], ends: &[u32], marks: &mut [u32], k: usize, n: u
         note(live, ends, marks, i);
         i += 1;
     }
+}
+
+// The only slot at gate m, which its mark names.
+pub(crate) fn only_slot(marks: &[u32], m: usize) -> usize
+    requires { ⌜ m < length (now marks) ⌝ }
+    requires { ⌜ 2 ≤ getD (now marks) m 0 ⌝ }
+    ensures { λ r. ⌜ r ≡ getD (now (marks .entry)) m 0 - 2 ⌝ }
+{
+    marks[m] as usize - 2
 }

@@ -1,8 +1,8 @@
 -- `blockfile::field::field_at` meets its contract: at each `return` the tests that led there say which case of `field-at` holds.
 -- Assumes nothing.
 use borrow.Author.Needs.{needs}
-use native.Mathlib.Omega.{arith}
 use mathlib.Core.Path.{sym}
+use native.Mathlib.Omega.{arith}
 use Rattle.model.proofs.Fields.{header-cut, body-cut, whole}
 use Rattle.blockfile.proofs.field.field_at.Statement.{statement}
 use Rattle.blockfile.proofs.field.field_at.Tie as tie
@@ -43,23 +43,11 @@ shared-slice-read-t12 c = search needs
 add-t7 : tie.Need-add-t7
 add-t7 c = search needs
 
+add-t5 : tie.Need-add-t5
+add-t5 c = search needs
+
 returns-4 : tie.Need-returns-4
 returns-4 c = rw (c .before .before .number-at .ensures) (sym (whole _ _ (omega arith)))
 
 pub field-at-spec : {M : Type 1} → statement M
-field-at-spec =
-    tie.close
-    (tie.spec
-    returns
-    sub-if2
-    returns-2
-    add-from
-    add-number-at
-    number-at-requires
-    cast-length
-    sub-if3
-    shared-slice-read-t10
-    returns-3
-    shared-slice-read-t12
-    add-t7
-    returns-4)
+field-at-spec = tie.close (tie.spec returns sub-if2 returns-2 add-from add-number-at number-at-requires cast-length sub-if3 shared-slice-read-t10 returns-3 shared-slice-read-t12 add-t7 add-t5 returns-4)

@@ -40,7 +40,11 @@ number-at-requires-2 : tie.Need-number-at-requires-2 Inv-loop μ-loop
 number-at-requires-2 c κs = search needs
 
 returns : tie.Need-returns Inv-loop μ-loop
-returns c = sym (drops-fail-at _ (c .before .before .before .before .before .before .pre) (c .before .before .before .before .loop .j) (c .before .before .before .before .loop .inv .0) (c .before .before .before .loop-test .taken) (omega arith))
+returns c =
+    let at-loop-test = c .before .before .before in
+    let at-loop = at-loop-test .before in
+    let start = at-loop .before .before in
+    sym (drops-fail-at _ (start .pre) (at-loop .loop .j) (at-loop .loop .inv .0) (at-loop-test .loop-test .taken) (omega arith))
 
 add-j : tie.Need-add-j Inv-loop μ-loop
 add-j c = omega arith
@@ -49,7 +53,10 @@ loop-less : tie.Need-loop-less Inv-loop μ-loop
 loop-less c = omega arith
 
 loop-again : tie.Need-loop-again Inv-loop μ-loop
-loop-again c = (omega arith, drops-more (c .before .before .before .before .before .before .args .steps .now) (c .before .before .before .before .loop .j) (c .before .before .before .before .loop .inv .0) (c .before .before .before .before .loop .inv .1) (omega arith))
+loop-again c =
+    let at-loop = c .before .before .before .before in
+    let start = at-loop .before .before in
+    (omega arith, drops-more (start .args .steps .now) (at-loop .loop .j) (at-loop .loop .inv .0) (at-loop .loop .inv .1) (omega arith))
 
 returns-2 : tie.Need-returns-2 Inv-loop μ-loop
 returns-2 c = sym (drops-pass _ (c .before .before .before .pre) (λ i h. c .before .loop .inv .1 i (omega arith)))

@@ -25,7 +25,10 @@ step-in-range-requires : tie.Need-step-in-range-requires Inv-loop μ-loop
 step-in-range-requires c κs = omega arith
 
 returns : tie.Need-returns Inv-loop μ-loop
-returns c = sym (ranges-fail _ (c .before .before .before .before .before .pre) (c .before .before .before .loop .j) (c .before .before .loop-test .taken) (sym (c .before .step-in-range .ensures) ∙ not-true _ (c .if1 .taken)))
+returns c =
+    let at-loop = c .before .before .before in
+    let start = at-loop .before .before in
+    sym (ranges-fail _ (start .pre) (at-loop .loop .j) (c .before .before .loop-test .taken) (sym (c .before .step-in-range .ensures) ∙ not-true _ (c .if1 .taken)))
 
 add-j : tie.Need-add-j Inv-loop μ-loop
 add-j c = omega arith

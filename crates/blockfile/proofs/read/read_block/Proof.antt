@@ -5,10 +5,14 @@ use mathlib.Core.Path.{_∙_, ap}
 use native.Mathlib.Omega.{arith}
 use Rattle.model.specs.Activity.{activity}
 use Rattle.model.specs.File.{block}
-use Rattle.blockfile.proofs.Judged.{judged, at-most-6}
+use Rattle.blockfile.proofs.Judged.{Judged, judged, at-most-6}
 use Rattle.blockfile.proofs.Whole.{block-refused, eight-bytes, gates-at-most, block-gates-refused, wires-from, block-wires-refused, block-found}
 use Rattle.blockfile.proofs.read.read_block.Statement.{statement}
 use Rattle.blockfile.proofs.read.read_block.Tie as tie
+
+-- the block field was judged
+field-judged : (c : tie.After-block-fault) → Judged block (c .before .before .before .before .before .before .before .before .before .before .before .before .before .args .file .now) 0 (c .block-fault .result) (c .before .before .field-body .result .now)
+field-judged c = judged block _ 0 _ (c .before .due-field .result) _ (c .before .due-field .ensures) (c .before .before .field-body .ensures .0) (c .block-fault .ensures)
 
 field-body-requires : tie.Need-field-body-requires
 field-body-requires c κs = search needs
@@ -20,22 +24,26 @@ block-fault-requires : tie.Need-block-fault-requires
 block-fault-requires c κs = search needs
 
 refusal-of-requires : tie.Need-refusal-of-requires
-refusal-of-requires c κs = (omega (arith, c .if1 .taken), at-most-6 (judged block (c .before .before .before .before .before .before .before .before .before .before .before .before .before .before .args .file .now) 0 (c .before .block-fault .result) (c .before .before .due-field .result) (c .before .before .before .field-body .result .now) (c .before .before .due-field .ensures) (c .before .before .before .field-body .ensures .0) (c .before .block-fault .ensures)))
+refusal-of-requires c κs = (omega (arith, c .if1 .taken), at-most-6 (field-judged (c .before)))
 
 returns : tie.Need-returns
-returns c = block-refused (judged block (c .before .before .before .before .before .before .before .before .before .before .before .before .before .before .before .args .file .now) 0 (c .before .before .block-fault .result) (c .before .before .before .due-field .result) (c .before .before .before .before .field-body .result .now) (c .before .before .before .due-field .ensures) (c .before .before .before .before .field-body .ensures .0) (c .before .before .block-fault .ensures)) (c .refusal-of .result) (c .before .if1 .taken) (c .refusal-of .ensures)
+returns c = block-refused (field-judged (c .before .before)) (c .refusal-of .result) (c .before .if1 .taken) (c .refusal-of .ensures)
 
 shared-slice-read-gates : tie.Need-shared-slice-read-gates
-shared-slice-read-gates c = omega (arith, eight-bytes (judged block (c .before .before .before .before .before .before .before .before .before .before .before .before .before .before .before .args .file .now) 0 (c .before .before .block-fault .result) (c .before .before .before .due-field .result) (c .before .before .before .before .field-body .result .now) (c .before .before .before .due-field .ensures) (c .before .before .before .before .field-body .ensures .0) (c .before .before .block-fault .ensures)) (c .before .if1 .left))
+shared-slice-read-gates c = omega (arith, eight-bytes (field-judged (c .before .before)) (c .before .if1 .left))
 
 add-read-gates : tie.Need-add-read-gates
 add-read-gates c = search needs
 
 cast-read-gates : tie.Need-cast-read-gates
-cast-read-gates c = omega (arith, gates-at-most (judged block (c .before .before .before .before .before .before .before .before .before .before .before .before .before .before .before .args .file .now) 0 (c .before .before .block-fault .result) (c .before .before .before .due-field .result) (c .before .before .before .before .field-body .result .now) (c .before .before .before .due-field .ensures) (c .before .before .before .before .field-body .ensures .0) (c .before .before .block-fault .ensures)) (c .before .if1 .left))
+cast-read-gates c = omega (arith, gates-at-most (field-judged (c .before .before)) (c .before .if1 .left))
 
 read-gates-requires : tie.Need-read-gates-requires
-read-gates-requires c κs = (gates-at-most (judged block (c .before .before .before .before .before .before .before .before .before .before .before .before .before .before .before .before .before .before .before .before .args .file .now) 0 (c .before .before .before .before .before .before .before .block-fault .result) (c .before .before .before .before .before .before .before .before .due-field .result) (c .before .before .before .before .before .before .before .before .before .field-body .result .now) (c .before .before .before .before .before .before .before .before .due-field .ensures) (c .before .before .before .before .before .before .before .before .before .field-body .ensures .0) (c .before .before .before .before .before .before .before .block-fault .ensures)) (c .before .before .before .before .before .before .if1 .left), c .before .before .before .before .before .before .before .before .before .before .before .before .before .before .before .before .before .before .before .before .pre .0)
+read-gates-requires c κs =
+    let at-if1 = c .before .before .before .before .before .before in
+    let at-block-fault = at-if1 .before in
+    let start = at-block-fault .before .before .before .before .before .before .before .before .before .before .before .before .before in
+    (gates-at-most (field-judged at-block-fault) (at-if1 .if1 .left), start .pre .0)
 
 enum-known-passed : tie.Need-enum-known-passed
 enum-known-passed c = search needs
@@ -44,7 +52,13 @@ enum-known-passed-2 : tie.Need-enum-known-passed-2
 enum-known-passed-2 c = search needs
 
 read-wires-requires : tie.Need-read-wires-requires
-read-wires-requires c κs = ((wires-from (judged block (c .before .before .before .before .before .before .before .before .before .before .before .before .before .before .before .before .before .before .before .before .before .before .before .before .before .before .before .before .before .before .before .before .before .before .before .before .before .before .args .file .now) 0 (c .before .before .before .before .before .before .before .before .before .before .before .before .before .before .before .before .before .before .before .before .before .before .before .before .before .block-fault .result) (c .before .before .before .before .before .before .before .before .before .before .before .before .before .before .before .before .before .before .before .before .before .before .before .before .before .before .due-field .result) (c .before .before .before .before .before .before .before .before .before .before .before .before .before .before .before .before .before .before .before .before .before .before .before .before .before .before .before .field-body .result .now) (c .before .before .before .before .before .before .before .before .before .before .before .before .before .before .before .before .before .before .before .before .before .before .before .before .before .before .due-field .ensures) (c .before .before .before .before .before .before .before .before .before .before .before .before .before .before .before .before .before .before .before .before .before .before .before .before .before .before .before .field-body .ensures .0) (c .before .before .before .before .before .before .before .before .before .before .before .before .before .before .before .before .before .before .before .before .before .before .before .before .before .block-fault .ensures)) (c .before .before .before .before .before .before .before .before .before .before .before .before .before .before .before .before .before .before .before .before .before .before .before .before .if1 .left) _ _ (rw (c .before .before .before .before .before .passed2 .given .1) at (c .before .before .before .before .before .before .before .before .before .before .before .before .before .before .before .before .before .read-gates .ensures)), gates-at-most (judged block (c .before .before .before .before .before .before .before .before .before .before .before .before .before .before .before .before .before .before .before .before .before .before .before .before .before .before .before .before .before .before .before .before .before .before .before .before .before .before .args .file .now) 0 (c .before .before .before .before .before .before .before .before .before .before .before .before .before .before .before .before .before .before .before .before .before .before .before .before .before .block-fault .result) (c .before .before .before .before .before .before .before .before .before .before .before .before .before .before .before .before .before .before .before .before .before .before .before .before .before .before .due-field .result) (c .before .before .before .before .before .before .before .before .before .before .before .before .before .before .before .before .before .before .before .before .before .before .before .before .before .before .before .field-body .result .now) (c .before .before .before .before .before .before .before .before .before .before .before .before .before .before .before .before .before .before .before .before .before .before .before .before .before .before .due-field .ensures) (c .before .before .before .before .before .before .before .before .before .before .before .before .before .before .before .before .before .before .before .before .before .before .before .before .before .before .before .field-body .ensures .0) (c .before .before .before .before .before .before .before .before .before .before .before .before .before .before .before .before .before .before .before .before .before .before .before .before .before .block-fault .ensures)) (c .before .before .before .before .before .before .before .before .before .before .before .before .before .before .before .before .before .before .before .before .before .before .before .before .if1 .left)), (c .before .before .before .before .before .before .before .before .before .before .before .before .before .before .before .before .before .before .before .before .before .before .before .before .before .before .before .before .before .before .before .before .before .before .before .before .before .before .pre .1 .0, c .before .before .before .before .before .before .before .before .before .before .before .before .before .before .before .before .before .before .before .before .before .before .before .before .before .before .before .before .before .before .before .before .before .before .before .before .before .before .pre .1 .1))
+read-wires-requires c κs =
+    let at-passed2 = c .before .before .before .before .before in
+    let at-read-gates = at-passed2 .before .before .before .before .before .before .before .before .before .before .before .before in
+    let at-if1 = at-read-gates .before .before .before .before .before .before .before in
+    let at-block-fault = at-if1 .before in
+    let start = at-block-fault .before .before .before .before .before .before .before .before .before .before .before .before .before in
+    ((wires-from (field-judged at-block-fault) (at-if1 .if1 .left) _ _ (rw (at-passed2 .passed2 .given .1) at (at-read-gates .read-gates .ensures)), gates-at-most (field-judged at-block-fault) (at-if1 .if1 .left)), (start .pre .1 .0, start .pre .1 .1))
 
 enum-known-ended : tie.Need-enum-known-ended
 enum-known-ended c = search needs
@@ -53,97 +67,173 @@ enum-known-ended-2 : tie.Need-enum-known-ended-2
 enum-known-ended-2 c = search needs
 
 cast-t48 : tie.Need-cast-t48
-cast-t48 c = omega (arith, gates-at-most (judged block (c .before .before .before .before .before .before .before .before .before .before .before .before .before .before .before .before .before .before .before .before .before .before .before .before .before .before .before .before .before .before .before .before .before .before .before .before .before .before .before .before .before .before .before .before .before .before .before .before .before .before .args .file .now) 0 (c .before .before .before .before .before .before .before .before .before .before .before .before .before .before .before .before .before .before .before .before .before .before .before .before .before .before .before .before .before .before .before .before .before .before .before .before .before .block-fault .result) (c .before .before .before .before .before .before .before .before .before .before .before .before .before .before .before .before .before .before .before .before .before .before .before .before .before .before .before .before .before .before .before .before .before .before .before .before .before .before .due-field .result) (c .before .before .before .before .before .before .before .before .before .before .before .before .before .before .before .before .before .before .before .before .before .before .before .before .before .before .before .before .before .before .before .before .before .before .before .before .before .before .before .field-body .result .now) (c .before .before .before .before .before .before .before .before .before .before .before .before .before .before .before .before .before .before .before .before .before .before .before .before .before .before .before .before .before .before .before .before .before .before .before .before .before .before .due-field .ensures) (c .before .before .before .before .before .before .before .before .before .before .before .before .before .before .before .before .before .before .before .before .before .before .before .before .before .before .before .before .before .before .before .before .before .before .before .before .before .before .before .field-body .ensures .0) (c .before .before .before .before .before .before .before .before .before .before .before .before .before .before .before .before .before .before .before .before .before .before .before .before .before .before .before .before .before .before .before .before .before .before .before .before .before .block-fault .ensures)) (c .before .before .before .before .before .before .before .before .before .before .before .before .before .before .before .before .before .before .before .before .before .before .before .before .before .before .before .before .before .before .before .before .before .before .before .before .if1 .left))
+cast-t48 c =
+    let at-if1 = c .before .before .before .before .before .before .before .before .before .before .before .before .before .before .before .before .before .before .before .before .before .before .before .before .before .before .before .before .before .before .before .before .before .before .before .before in
+    let at-block-fault = at-if1 .before in
+    omega (arith, gates-at-most (field-judged at-block-fault) (at-if1 .if1 .left))
 
 number-at-requires : tie.Need-number-at-requires
-number-at-requires c κs = omega (arith, eight-bytes (judged block (c .before .before .before .before .before .before .before .before .before .before .before .before .before .before .before .before .before .before .before .before .before .before .before .before .before .before .before .before .before .before .before .before .before .before .before .before .before .before .before .before .before .before .before .before .before .before .before .before .before .before .args .file .now) 0 (c .before .before .before .before .before .before .before .before .before .before .before .before .before .before .before .before .before .before .before .before .before .before .before .before .before .before .before .before .before .before .before .before .before .before .before .before .before .block-fault .result) (c .before .before .before .before .before .before .before .before .before .before .before .before .before .before .before .before .before .before .before .before .before .before .before .before .before .before .before .before .before .before .before .before .before .before .before .before .before .before .due-field .result) (c .before .before .before .before .before .before .before .before .before .before .before .before .before .before .before .before .before .before .before .before .before .before .before .before .before .before .before .before .before .before .before .before .before .before .before .before .before .before .before .field-body .result .now) (c .before .before .before .before .before .before .before .before .before .before .before .before .before .before .before .before .before .before .before .before .before .before .before .before .before .before .before .before .before .before .before .before .before .before .before .before .before .before .due-field .ensures) (c .before .before .before .before .before .before .before .before .before .before .before .before .before .before .before .before .before .before .before .before .before .before .before .before .before .before .before .before .before .before .before .before .before .before .before .before .before .before .before .field-body .ensures .0) (c .before .before .before .before .before .before .before .before .before .before .before .before .before .before .before .before .before .before .before .before .before .before .before .before .before .before .before .before .before .before .before .before .before .before .before .before .before .block-fault .ensures)) (c .before .before .before .before .before .before .before .before .before .before .before .before .before .before .before .before .before .before .before .before .before .before .before .before .before .before .before .before .before .before .before .before .before .before .before .before .if1 .left))
+number-at-requires c κs =
+    let at-if1 = c .before .before .before .before .before .before .before .before .before .before .before .before .before .before .before .before .before .before .before .before .before .before .before .before .before .before .before .before .before .before .before .before .before .before .before .before in
+    let at-block-fault = at-if1 .before in
+    omega (arith, eight-bytes (field-judged at-block-fault) (at-if1 .if1 .left))
 
 number-at-requires-2 : tie.Need-number-at-requires-2
-number-at-requires-2 c κs = omega (arith, eight-bytes (judged block (c .before .before .before .before .before .before .before .before .before .before .before .before .before .before .before .before .before .before .before .before .before .before .before .before .before .before .before .before .before .before .before .before .before .before .before .before .before .before .before .before .before .before .before .before .before .before .before .before .before .before .before .args .file .now) 0 (c .before .before .before .before .before .before .before .before .before .before .before .before .before .before .before .before .before .before .before .before .before .before .before .before .before .before .before .before .before .before .before .before .before .before .before .before .before .before .block-fault .result) (c .before .before .before .before .before .before .before .before .before .before .before .before .before .before .before .before .before .before .before .before .before .before .before .before .before .before .before .before .before .before .before .before .before .before .before .before .before .before .before .due-field .result) (c .before .before .before .before .before .before .before .before .before .before .before .before .before .before .before .before .before .before .before .before .before .before .before .before .before .before .before .before .before .before .before .before .before .before .before .before .before .before .before .before .field-body .result .now) (c .before .before .before .before .before .before .before .before .before .before .before .before .before .before .before .before .before .before .before .before .before .before .before .before .before .before .before .before .before .before .before .before .before .before .before .before .before .before .before .due-field .ensures) (c .before .before .before .before .before .before .before .before .before .before .before .before .before .before .before .before .before .before .before .before .before .before .before .before .before .before .before .before .before .before .before .before .before .before .before .before .before .before .before .before .field-body .ensures .0) (c .before .before .before .before .before .before .before .before .before .before .before .before .before .before .before .before .before .before .before .before .before .before .before .before .before .before .before .before .before .before .before .before .before .before .before .before .before .before .block-fault .ensures)) (c .before .before .before .before .before .before .before .before .before .before .before .before .before .before .before .before .before .before .before .before .before .before .before .before .before .before .before .before .before .before .before .before .before .before .before .before .before .if1 .left))
+number-at-requires-2 c κs =
+    let at-if1 = c .before .before .before .before .before .before .before .before .before .before .before .before .before .before .before .before .before .before .before .before .before .before .before .before .before .before .before .before .before .before .before .before .before .before .before .before .before in
+    let at-block-fault = at-if1 .before in
+    omega (arith, eight-bytes (field-judged at-block-fault) (at-if1 .if1 .left))
 
 number-at-requires-3 : tie.Need-number-at-requires-3
-number-at-requires-3 c κs = omega (arith, eight-bytes (judged block (c .before .before .before .before .before .before .before .before .before .before .before .before .before .before .before .before .before .before .before .before .before .before .before .before .before .before .before .before .before .before .before .before .before .before .before .before .before .before .before .before .before .before .before .before .before .before .before .before .before .before .before .before .args .file .now) 0 (c .before .before .before .before .before .before .before .before .before .before .before .before .before .before .before .before .before .before .before .before .before .before .before .before .before .before .before .before .before .before .before .before .before .before .before .before .before .before .before .block-fault .result) (c .before .before .before .before .before .before .before .before .before .before .before .before .before .before .before .before .before .before .before .before .before .before .before .before .before .before .before .before .before .before .before .before .before .before .before .before .before .before .before .before .due-field .result) (c .before .before .before .before .before .before .before .before .before .before .before .before .before .before .before .before .before .before .before .before .before .before .before .before .before .before .before .before .before .before .before .before .before .before .before .before .before .before .before .before .before .field-body .result .now) (c .before .before .before .before .before .before .before .before .before .before .before .before .before .before .before .before .before .before .before .before .before .before .before .before .before .before .before .before .before .before .before .before .before .before .before .before .before .before .before .before .due-field .ensures) (c .before .before .before .before .before .before .before .before .before .before .before .before .before .before .before .before .before .before .before .before .before .before .before .before .before .before .before .before .before .before .before .before .before .before .before .before .before .before .before .before .before .field-body .ensures .0) (c .before .before .before .before .before .before .before .before .before .before .before .before .before .before .before .before .before .before .before .before .before .before .before .before .before .before .before .before .before .before .before .before .before .before .before .before .before .before .before .block-fault .ensures)) (c .before .before .before .before .before .before .before .before .before .before .before .before .before .before .before .before .before .before .before .before .before .before .before .before .before .before .before .before .before .before .before .before .before .before .before .before .before .before .if1 .left))
+number-at-requires-3 c κs =
+    let at-if1 = c .before .before .before .before .before .before .before .before .before .before .before .before .before .before .before .before .before .before .before .before .before .before .before .before .before .before .before .before .before .before .before .before .before .before .before .before .before .before in
+    let at-block-fault = at-if1 .before in
+    omega (arith, eight-bytes (field-judged at-block-fault) (at-if1 .if1 .left))
 
 activity-of-requires : tie.Need-activity-of-requires
 activity-of-requires c κs = search needs
 
 same-length : tie.Need-same-length
-same-length c = search needs
+same-length c =
+    let at-read-gates = c .before .before .before .before .before .before .before .before .before .before .before .before .before in
+    at-read-gates .read-gates .kept .1 .1 .1 .0
 
 same-length-2 : tie.Need-same-length-2
-same-length-2 c = search needs
+same-length-2 c =
+    let at-read-gates = c .before .before .before .before .before .before .before .before .before .before .before .before .before in
+    at-read-gates .read-gates .kept .1 .1 .1 .1 .0
 
 same-length-3 : tie.Need-same-length-3
-same-length-3 c = search needs
+same-length-3 c =
+    let at-read-gates = c .before .before .before .before .before .before .before .before .before .before .before .before .before in
+    at-read-gates .read-gates .kept .1 .1 .1 .1 .1 .0
 
 same-length-4 : tie.Need-same-length-4
-same-length-4 c = search needs
+same-length-4 c =
+    let at-read-gates = c .before .before .before .before .before .before .before .before .before .before .before .before .before in
+    at-read-gates .read-gates .kept .1 .1 .1 .1 .1 .1 .0
 
 same-length-5 : tie.Need-same-length-5
-same-length-5 c = search needs
+same-length-5 c =
+    let at-read-gates = c .before .before .before .before .before .before .before .before .before .before .before .before .before in
+    at-read-gates .read-gates .kept .1 .1 .1 .1 .1 .1 .1 .0
 
 returns-2 : tie.Need-returns-2
-returns-2 c = block-gates-refused (judged block (c .before .before .before .before .before .before .before .before .before .before .before .before .before .before .before .before .before .before .before .before .before .before .before .before .before .before .before .before .before .before .before .before .before .before .args .file .now) 0 (c .before .before .before .before .before .before .before .before .before .before .before .before .before .before .before .before .before .before .before .before .before .block-fault .result) (c .before .before .before .before .before .before .before .before .before .before .before .before .before .before .before .before .before .before .before .before .before .before .due-field .result) (c .before .before .before .before .before .before .before .before .before .before .before .before .before .before .before .before .before .before .before .before .before .before .before .field-body .result .now) (c .before .before .before .before .before .before .before .before .before .before .before .before .before .before .before .before .before .before .before .before .before .before .due-field .ensures) (c .before .before .before .before .before .before .before .before .before .before .before .before .before .before .before .before .before .before .before .before .before .before .before .field-body .ensures .0) (c .before .before .before .before .before .before .before .before .before .before .before .before .before .before .before .before .before .before .before .before .before .block-fault .ensures)) (c .before .before .before .before .before .before .before .before .before .before .before .before .before .before .before .before .before .before .before .before .if1 .left) (c .before .passed .given .0 .0) (rw (c .before .passed .given .1) at (c .before .before .before .before .before .before .before .before .before .before .before .before .before .read-gates .ensures))
+returns-2 c =
+    let at-read-gates = c .before .before .before .before .before .before .before .before .before .before .before .before .before in
+    let at-if1 = at-read-gates .before .before .before .before .before .before .before in
+    let at-block-fault = at-if1 .before in
+    block-gates-refused (field-judged at-block-fault) (at-if1 .if1 .left) (c .before .passed .given .0 .0) (rw (c .before .passed .given .1) at (at-read-gates .read-gates .ensures))
 
 same-length-6 : tie.Need-same-length-6
-same-length-6 c = search needs
+same-length-6 c =
+    let at-read-gates = c .before .before .before .before .before .before .before .before .before .before .before .before .before .before .before .before .before .before .before .before .before .before .before .before .before .before .before .before .before in
+    at-read-gates .read-gates .kept .1 .1 .1 .0
 
 same-length-7 : tie.Need-same-length-7
-same-length-7 c = search needs
+same-length-7 c =
+    let at-read-gates = c .before .before .before .before .before .before .before .before .before .before .before .before .before .before .before .before .before .before .before .before .before .before .before .before .before .before .before .before .before in
+    at-read-gates .read-gates .kept .1 .1 .1 .1 .0
 
 same-length-8 : tie.Need-same-length-8
-same-length-8 c = search needs
+same-length-8 c =
+    let at-read-gates = c .before .before .before .before .before .before .before .before .before .before .before .before .before .before .before .before .before .before .before .before .before .before .before .before .before .before .before .before .before in
+    at-read-gates .read-gates .kept .1 .1 .1 .1 .1 .0
 
 same-length-9 : tie.Need-same-length-9
-same-length-9 c = search needs
+same-length-9 c =
+    let at-read-gates = c .before .before .before .before .before .before .before .before .before .before .before .before .before .before .before .before .before .before .before .before .before .before .before .before .before .before .before .before .before in
+    at-read-gates .read-gates .kept .1 .1 .1 .1 .1 .1 .0
 
 same-length-10 : tie.Need-same-length-10
-same-length-10 c = search needs
+same-length-10 c =
+    let at-read-gates = c .before .before .before .before .before .before .before .before .before .before .before .before .before .before .before .before .before .before .before .before .before .before .before .before .before .before .before .before .before in
+    at-read-gates .read-gates .kept .1 .1 .1 .1 .1 .1 .1 .0
 
 same-length-11 : tie.Need-same-length-11
-same-length-11 c = search needs
+same-length-11 c =
+    let at-read-wires = c .before .before .before .before .before .before .before .before .before .before .before in
+    at-read-wires .read-wires .kept .1 .1 .1 .0
 
 same-length-12 : tie.Need-same-length-12
-same-length-12 c = search needs
+same-length-12 c =
+    let at-read-wires = c .before .before .before .before .before .before .before .before .before .before .before in
+    at-read-wires .read-wires .kept .1 .1 .1 .1 .0
 
 same-length-13 : tie.Need-same-length-13
-same-length-13 c = search needs
+same-length-13 c =
+    let at-read-wires = c .before .before .before .before .before .before .before .before .before .before .before in
+    at-read-wires .read-wires .kept .1 .1 .1 .1 .1 .0
 
 same-length-14 : tie.Need-same-length-14
-same-length-14 c = search needs
+same-length-14 c =
+    let at-read-wires = c .before .before .before .before .before .before .before .before .before .before .before in
+    at-read-wires .read-wires .kept .1 .1 .1 .1 .1 .1 .0
 
 returns-3 : tie.Need-returns-3
-returns-3 c = block-wires-refused (judged block (c .before .before .before .before .before .before .before .before .before .before .before .before .before .before .before .before .before .before .before .before .before .before .before .before .before .before .before .before .before .before .before .before .before .before .before .before .before .before .before .before .before .before .before .before .before .before .before .before .before .before .args .file .now) 0 (c .before .before .before .before .before .before .before .before .before .before .before .before .before .before .before .before .before .before .before .before .before .before .before .before .before .before .before .before .before .before .before .before .before .before .before .before .before .block-fault .result) (c .before .before .before .before .before .before .before .before .before .before .before .before .before .before .before .before .before .before .before .before .before .before .before .before .before .before .before .before .before .before .before .before .before .before .before .before .before .before .due-field .result) (c .before .before .before .before .before .before .before .before .before .before .before .before .before .before .before .before .before .before .before .before .before .before .before .before .before .before .before .before .before .before .before .before .before .before .before .before .before .before .before .field-body .result .now) (c .before .before .before .before .before .before .before .before .before .before .before .before .before .before .before .before .before .before .before .before .before .before .before .before .before .before .before .before .before .before .before .before .before .before .before .before .before .before .due-field .ensures) (c .before .before .before .before .before .before .before .before .before .before .before .before .before .before .before .before .before .before .before .before .before .before .before .before .before .before .before .before .before .before .before .before .before .before .before .before .before .before .before .field-body .ensures .0) (c .before .before .before .before .before .before .before .before .before .before .before .before .before .before .before .before .before .before .before .before .before .before .before .before .before .before .before .before .before .before .before .before .before .before .before .before .before .block-fault .ensures)) (c .before .before .before .before .before .before .before .before .before .before .before .before .before .before .before .before .before .before .before .before .before .before .before .before .before .before .before .before .before .before .before .before .before .before .before .before .if1 .left) _ _ (rw (c .before .before .before .before .before .before .before .before .before .before .before .before .before .before .before .before .before .passed2 .given .1) at (c .before .before .before .before .before .before .before .before .before .before .before .before .before .before .before .before .before .before .before .before .before .before .before .before .before .before .before .before .before .read-gates .ensures)) (c .before .ended .given .0 .0) (rw (c .before .ended .given .1) at (c .before .before .before .before .before .before .before .before .before .before .before .read-wires .ensures))
+returns-3 c =
+    let at-read-wires = c .before .before .before .before .before .before .before .before .before .before .before in
+    let at-passed2 = at-read-wires .before .before .before .before .before .before in
+    let at-read-gates = at-passed2 .before .before .before .before .before .before .before .before .before .before .before .before in
+    let at-if1 = at-read-gates .before .before .before .before .before .before .before in
+    let at-block-fault = at-if1 .before in
+    block-wires-refused (field-judged at-block-fault) (at-if1 .if1 .left) _ _ (rw (at-passed2 .passed2 .given .1) at (at-read-gates .read-gates .ensures)) (c .before .ended .given .0 .0) (rw (c .before .ended .given .1) at (at-read-wires .read-wires .ensures))
 
 same-length-15 : tie.Need-same-length-15
-same-length-15 c = search needs
+same-length-15 c =
+    let at-read-gates = c .before .before .before .before .before .before .before .before .before .before .before .before .before .before .before .before .before .before .before .before .before .before .before .before .before .before .before .before .before .before .before .before .before in
+    at-read-gates .read-gates .kept .1 .1 .1 .0
 
 same-length-16 : tie.Need-same-length-16
-same-length-16 c = search needs
+same-length-16 c =
+    let at-read-gates = c .before .before .before .before .before .before .before .before .before .before .before .before .before .before .before .before .before .before .before .before .before .before .before .before .before .before .before .before .before .before .before .before .before in
+    at-read-gates .read-gates .kept .1 .1 .1 .1 .0
 
 same-length-17 : tie.Need-same-length-17
-same-length-17 c = search needs
+same-length-17 c =
+    let at-read-gates = c .before .before .before .before .before .before .before .before .before .before .before .before .before .before .before .before .before .before .before .before .before .before .before .before .before .before .before .before .before .before .before .before .before in
+    at-read-gates .read-gates .kept .1 .1 .1 .1 .1 .0
 
 same-length-18 : tie.Need-same-length-18
-same-length-18 c = search needs
+same-length-18 c =
+    let at-read-gates = c .before .before .before .before .before .before .before .before .before .before .before .before .before .before .before .before .before .before .before .before .before .before .before .before .before .before .before .before .before .before .before .before .before in
+    at-read-gates .read-gates .kept .1 .1 .1 .1 .1 .1 .0
 
 same-length-19 : tie.Need-same-length-19
-same-length-19 c = search needs
+same-length-19 c =
+    let at-read-gates = c .before .before .before .before .before .before .before .before .before .before .before .before .before .before .before .before .before .before .before .before .before .before .before .before .before .before .before .before .before .before .before .before .before in
+    at-read-gates .read-gates .kept .1 .1 .1 .1 .1 .1 .1 .0
 
 same-length-20 : tie.Need-same-length-20
-same-length-20 c = search needs
+same-length-20 c =
+    let at-read-wires = c .before .before .before .before .before .before .before .before .before .before .before .before .before .before .before in
+    at-read-wires .read-wires .kept .1 .1 .1 .0
 
 same-length-21 : tie.Need-same-length-21
-same-length-21 c = search needs
+same-length-21 c =
+    let at-read-wires = c .before .before .before .before .before .before .before .before .before .before .before .before .before .before .before in
+    at-read-wires .read-wires .kept .1 .1 .1 .1 .0
 
 same-length-22 : tie.Need-same-length-22
-same-length-22 c = search needs
+same-length-22 c =
+    let at-read-wires = c .before .before .before .before .before .before .before .before .before .before .before .before .before .before .before in
+    at-read-wires .read-wires .kept .1 .1 .1 .1 .1 .0
 
 same-length-23 : tie.Need-same-length-23
-same-length-23 c = search needs
+same-length-23 c =
+    let at-read-wires = c .before .before .before .before .before .before .before .before .before .before .before .before .before .before .before in
+    at-read-wires .read-wires .kept .1 .1 .1 .1 .1 .1 .0
 
 returns-4 : tie.Need-returns-4
-returns-4 c = block-found (judged block (c .before .before .before .before .before .before .before .before .before .before .before .before .before .before .before .before .before .before .before .before .before .before .before .before .before .before .before .before .before .before .before .before .before .before .before .before .before .before .before .before .before .before .before .before .before .before .before .before .before .before .before .before .before .before .args .file .now) 0 (c .before .before .before .before .before .before .before .before .before .before .before .before .before .before .before .before .before .before .before .before .before .before .before .before .before .before .before .before .before .before .before .before .before .before .before .before .before .before .before .before .before .block-fault .result) (c .before .before .before .before .before .before .before .before .before .before .before .before .before .before .before .before .before .before .before .before .before .before .before .before .before .before .before .before .before .before .before .before .before .before .before .before .before .before .before .before .before .before .due-field .result) (c .before .before .before .before .before .before .before .before .before .before .before .before .before .before .before .before .before .before .before .before .before .before .before .before .before .before .before .before .before .before .before .before .before .before .before .before .before .before .before .before .before .before .before .field-body .result .now) (c .before .before .before .before .before .before .before .before .before .before .before .before .before .before .before .before .before .before .before .before .before .before .before .before .before .before .before .before .before .before .before .before .before .before .before .before .before .before .before .before .before .before .due-field .ensures) (c .before .before .before .before .before .before .before .before .before .before .before .before .before .before .before .before .before .before .before .before .before .before .before .before .before .before .before .before .before .before .before .before .before .before .before .before .before .before .before .before .before .before .before .field-body .ensures .0) (c .before .before .before .before .before .before .before .before .before .before .before .before .before .before .before .before .before .before .before .before .before .before .before .before .before .before .before .before .before .before .before .before .before .before .before .before .before .before .before .before .before .block-fault .ensures)) (c .before .before .before .before .before .before .before .before .before .before .before .before .before .before .before .before .before .before .before .before .before .before .before .before .before .before .before .before .before .before .before .before .before .before .before .before .before .before .before .before .if1 .left) _ _ (rw (c .before .before .before .before .before .before .before .before .before .before .before .before .before .before .before .before .before .before .before .before .before .passed2 .given .1) at (c .before .before .before .before .before .before .before .before .before .before .before .before .before .before .before .before .before .before .before .before .before .before .before .before .before .before .before .before .before .before .before .before .before .read-gates .ensures)) _ _ _ _ (rw (c .before .before .before .before .before .ended2 .given .1) at (c .before .before .before .before .before .before .before .before .before .before .before .before .before .before .before .read-wires .ensures)) (c .before .before .before .number-at .ensures) (c .before .before .number-at2 .ensures) (c .activity-of .ensures ∙ ap activity (c .before .number-at3 .ensures))
+returns-4 c =
+    let at-number-at = c .before .before .before in
+    let at-ended2 = at-number-at .before .before in
+    let at-read-wires = at-ended2 .before .before .before .before .before .before .before .before .before .before in
+    let at-passed2 = at-read-wires .before .before .before .before .before .before in
+    let at-read-gates = at-passed2 .before .before .before .before .before .before .before .before .before .before .before .before in
+    let at-if1 = at-read-gates .before .before .before .before .before .before .before in
+    let at-block-fault = at-if1 .before in
+    block-found (field-judged at-block-fault) (at-if1 .if1 .left) _ _ (rw (at-passed2 .passed2 .given .1) at (at-read-gates .read-gates .ensures)) _ _ _ _ (rw (at-ended2 .ended2 .given .1) at (at-read-wires .read-wires .ensures)) (at-number-at .number-at .ensures) (c .before .before .number-at2 .ensures) (c .activity-of .ensures ∙ ap activity (c .before .number-at3 .ensures))
 
 pub read-block-spec : {M : Type 1} → statement M
 read-block-spec = tie.close (tie.spec field-body-requires due-field-requires block-fault-requires refusal-of-requires returns shared-slice-read-gates add-read-gates cast-read-gates read-gates-requires enum-known-passed enum-known-passed-2 read-wires-requires enum-known-ended enum-known-ended-2 cast-t48 number-at-requires number-at-requires-2 number-at-requires-3 activity-of-requires same-length same-length-2 same-length-3 same-length-4 same-length-5 returns-2 same-length-6 same-length-7 same-length-8 same-length-9 same-length-10 same-length-11 same-length-12 same-length-13 same-length-14 returns-3 same-length-15 same-length-16 same-length-17 same-length-18 same-length-19 same-length-20 same-length-21 same-length-22 same-length-23 returns-4)

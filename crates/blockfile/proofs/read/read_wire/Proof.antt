@@ -1,12 +1,19 @@
 -- `blockfile::read::read_wire` meets its contract: the field is judged, and refused or stored and noted in the table.
 -- Assumes nothing.
 use borrow.Author.Needs.{needs}
+use mathlib.Core.List.{List}
 use native.Mathlib.Omega.{arith}
+use Rattle.model.specs.Block.{Wire}
 use Rattle.model.specs.File.{wire}
-use Rattle.blockfile.proofs.Judged.{judged, at-most-6, judged-inside}
+use Rattle.blockfile.specs.Seen.{Marks}
+use Rattle.blockfile.proofs.Judged.{Judged, judged, at-most-6, judged-inside}
 use Rattle.blockfile.proofs.Wires.{two-gates, wire-refused, wire-found}
 use Rattle.blockfile.proofs.read.read_wire.Statement.{statement}
 use Rattle.blockfile.proofs.read.read_wire.Tie as tie
+
+-- the field was judged, after any wires that the table holds
+field-judged : (c : tie.After-wire-fault) (ws : List Wire) → Marks (c .before .before .before .before .before .before .before .before .before .args .seen .now) ws → Judged (wire (c .before .before .before .before .before .before .before .before .before .args .gates) ws) (c .before .before .before .before .before .before .before .before .before .args .file .now) (c .before .before .before .before .before .before .before .before .before .args .offset) (c .wire-fault .result) (c .before .before .before .field-body .result .now)
+field-judged c ws m = judged (wire (c .before .before .before .before .before .before .before .before .before .args .gates) ws) _ _ _ (c .before .before .due-field .result) _ (c .before .before .due-field .ensures) (c .before .before .before .field-body .ensures .0) (c .wire-fault .ensures ws m)
 
 field-body-requires : tie.Need-field-body-requires
 field-body-requires c κs = search needs
@@ -18,16 +25,20 @@ wire-fault-requires : tie.Need-wire-fault-requires
 wire-fault-requires c κs = search needs
 
 refusal-of-requires : tie.Need-refusal-of-requires
-refusal-of-requires c κs = (omega (arith, c .if1 .taken), at-most-6 (judged (wire (c .before .before .before .before .before .before .before .before .before .before .args .gates) (c .before .before .before .before .before .before .before .before .before .before .pre .1 .1 .1 .0)) (c .before .before .before .before .before .before .before .before .before .before .args .file .now) (c .before .before .before .before .before .before .before .before .before .before .args .offset) (c .before .wire-fault .result) (c .before .before .before .due-field .result) (c .before .before .before .before .field-body .result .now) (c .before .before .before .due-field .ensures) (c .before .before .before .before .field-body .ensures .0) (c .before .wire-fault .ensures (c .before .before .before .before .before .before .before .before .before .before .pre .1 .1 .1 .0) (c .before .before .before .before .before .before .before .before .before .before .pre .1 .1 .1 .1))))
+refusal-of-requires c κs =
+    let start = c .before .before .before .before .before .before .before .before .before .before in
+    (omega (arith, c .if1 .taken), at-most-6 (field-judged (c .before) (start .pre .1 .1 .1 .0) (start .pre .1 .1 .1 .1)))
 
 same-length : tie.Need-same-length
 same-length c = search needs
 
 returns : tie.Need-returns
-returns c = wire-refused (λ ws m. judged (wire (c .before .before .before .before .before .before .before .before .before .before .before .args .gates) ws) (c .before .before .before .before .before .before .before .before .before .before .before .args .file .now) (c .before .before .before .before .before .before .before .before .before .before .before .args .offset) (c .before .before .wire-fault .result) (c .before .before .before .before .due-field .result) (c .before .before .before .before .before .field-body .result .now) (c .before .before .before .before .due-field .ensures) (c .before .before .before .before .before .field-body .ensures .0) (c .before .before .wire-fault .ensures ws m)) _ _ (c .before .if1 .taken) (c .refusal-of .ensures)
+returns c = wire-refused (field-judged (c .before .before)) _ _ (c .before .if1 .taken) (c .refusal-of .ensures)
 
 shared-slice-read-wide : tie.Need-shared-slice-read-wide
-shared-slice-read-wide c = omega (arith, (two-gates (judged (wire (c .before .before .before .before .before .before .before .before .before .before .before .args .gates) (c .before .before .before .before .before .before .before .before .before .before .before .pre .1 .1 .1 .0)) (c .before .before .before .before .before .before .before .before .before .before .before .args .file .now) (c .before .before .before .before .before .before .before .before .before .before .before .args .offset) (c .before .before .wire-fault .result) (c .before .before .before .before .due-field .result) (c .before .before .before .before .before .field-body .result .now) (c .before .before .before .before .due-field .ensures) (c .before .before .before .before .before .field-body .ensures .0) (c .before .before .wire-fault .ensures (c .before .before .before .before .before .before .before .before .before .before .before .pre .1 .1 .1 .0) (c .before .before .before .before .before .before .before .before .before .before .before .pre .1 .1 .1 .1))) (c .before .if1 .left)) .two)
+shared-slice-read-wide c =
+    let start = c .before .before .before .before .before .before .before .before .before .before .before in
+    omega (arith, two-gates (field-judged (c .before .before) (start .pre .1 .1 .1 .0) (start .pre .1 .1 .1 .1)) (c .before .if1 .left) .two)
 
 wide-requires : tie.Need-wide-requires
 wide-requires c κs = search needs
@@ -39,7 +50,11 @@ slice-write-sources : tie.Need-slice-write-sources
 slice-write-sources c = search needs
 
 shared-slice-read-wide-2 : tie.Need-shared-slice-read-wide-2
-shared-slice-read-wide-2 c = omega (arith, (two-gates (judged (wire (c .before .before .before .before .before .before .before .before .before .before .before .before .before .args .gates) (c .before .before .before .before .before .before .before .before .before .before .before .before .before .pre .1 .1 .1 .0)) (c .before .before .before .before .before .before .before .before .before .before .before .before .before .args .file .now) (c .before .before .before .before .before .before .before .before .before .before .before .before .before .args .offset) (c .before .before .before .before .wire-fault .result) (c .before .before .before .before .before .before .due-field .result) (c .before .before .before .before .before .before .before .field-body .result .now) (c .before .before .before .before .before .before .due-field .ensures) (c .before .before .before .before .before .before .before .field-body .ensures .0) (c .before .before .before .before .wire-fault .ensures (c .before .before .before .before .before .before .before .before .before .before .before .before .before .pre .1 .1 .1 .0) (c .before .before .before .before .before .before .before .before .before .before .before .before .before .pre .1 .1 .1 .1))) (c .before .before .before .if1 .left)) .two)
+shared-slice-read-wide-2 c =
+    let at-if1 = c .before .before .before in
+    let at-wire-fault = at-if1 .before in
+    let start = at-wire-fault .before .before .before .before .before .before .before .before .before in
+    omega (arith, two-gates (field-judged at-wire-fault (start .pre .1 .1 .1 .0) (start .pre .1 .1 .1 .1)) (at-if1 .if1 .left) .two)
 
 wide-requires-2 : tie.Need-wide-requires-2
 wide-requires-2 c κs = search needs
@@ -57,19 +72,39 @@ slice-write-wire-delays : tie.Need-slice-write-wire-delays
 slice-write-wire-delays c = search needs
 
 shared-slice-read-mark : tie.Need-shared-slice-read-mark
-shared-slice-read-mark c = omega (arith, (two-gates (judged (wire (c .before .before .before .before .before .before .before .before .before .before .before .before .before .before .before .before .args .gates) (c .before .before .before .before .before .before .before .before .before .before .before .before .before .before .before .before .pre .1 .1 .1 .0)) (c .before .before .before .before .before .before .before .before .before .before .before .before .before .before .before .before .args .file .now) (c .before .before .before .before .before .before .before .before .before .before .before .before .before .before .before .before .args .offset) (c .before .before .before .before .before .before .before .wire-fault .result) (c .before .before .before .before .before .before .before .before .before .due-field .result) (c .before .before .before .before .before .before .before .before .before .before .field-body .result .now) (c .before .before .before .before .before .before .before .before .before .due-field .ensures) (c .before .before .before .before .before .before .before .before .before .before .field-body .ensures .0) (c .before .before .before .before .before .before .before .wire-fault .ensures (c .before .before .before .before .before .before .before .before .before .before .before .before .before .before .before .before .pre .1 .1 .1 .0) (c .before .before .before .before .before .before .before .before .before .before .before .before .before .before .before .before .pre .1 .1 .1 .1))) (c .before .before .before .before .before .before .if1 .left)) .two)
+shared-slice-read-mark c =
+    let at-if1 = c .before .before .before .before .before .before in
+    let at-wire-fault = at-if1 .before in
+    let start = at-wire-fault .before .before .before .before .before .before .before .before .before in
+    omega (arith, two-gates (field-judged at-wire-fault (start .pre .1 .1 .1 .0) (start .pre .1 .1 .1 .1)) (at-if1 .if1 .left) .two)
 
 shared-slice-read-mark-2 : tie.Need-shared-slice-read-mark-2
-shared-slice-read-mark-2 c = omega (arith, (two-gates (judged (wire (c .before .before .before .before .before .before .before .before .before .before .before .before .before .before .before .before .before .args .gates) (c .before .before .before .before .before .before .before .before .before .before .before .before .before .before .before .before .before .pre .1 .1 .1 .0)) (c .before .before .before .before .before .before .before .before .before .before .before .before .before .before .before .before .before .args .file .now) (c .before .before .before .before .before .before .before .before .before .before .before .before .before .before .before .before .before .args .offset) (c .before .before .before .before .before .before .before .before .wire-fault .result) (c .before .before .before .before .before .before .before .before .before .before .due-field .result) (c .before .before .before .before .before .before .before .before .before .before .before .field-body .result .now) (c .before .before .before .before .before .before .before .before .before .before .due-field .ensures) (c .before .before .before .before .before .before .before .before .before .before .before .field-body .ensures .0) (c .before .before .before .before .before .before .before .before .wire-fault .ensures (c .before .before .before .before .before .before .before .before .before .before .before .before .before .before .before .before .before .pre .1 .1 .1 .0) (c .before .before .before .before .before .before .before .before .before .before .before .before .before .before .before .before .before .pre .1 .1 .1 .1))) (c .before .before .before .before .before .before .before .if1 .left)) .two)
+shared-slice-read-mark-2 c =
+    let at-if1 = c .before .before .before .before .before .before .before in
+    let at-wire-fault = at-if1 .before in
+    let start = at-wire-fault .before .before .before .before .before .before .before .before .before in
+    omega (arith, two-gates (field-judged at-wire-fault (start .pre .1 .1 .1 .0) (start .pre .1 .1 .1 .1)) (at-if1 .if1 .left) .two)
 
 mark-requires : tie.Need-mark-requires
-mark-requires c κs = (c .before .before .before .before .before .before .before .before .before .before .before .before .before .before .before .before .before .pre .1 .1 .0, (omega (arith, (two-gates (judged (wire (c .before .before .before .before .before .before .before .before .before .before .before .before .before .before .before .before .before .args .gates) (c .before .before .before .before .before .before .before .before .before .before .before .before .before .before .before .before .before .pre .1 .1 .1 .0)) (c .before .before .before .before .before .before .before .before .before .before .before .before .before .before .before .before .before .args .file .now) (c .before .before .before .before .before .before .before .before .before .before .before .before .before .before .before .before .before .args .offset) (c .before .before .before .before .before .before .before .before .wire-fault .result) (c .before .before .before .before .before .before .before .before .before .before .due-field .result) (c .before .before .before .before .before .before .before .before .before .before .before .field-body .result .now) (c .before .before .before .before .before .before .before .before .before .before .due-field .ensures) (c .before .before .before .before .before .before .before .before .before .before .before .field-body .ensures .0) (c .before .before .before .before .before .before .before .before .wire-fault .ensures (c .before .before .before .before .before .before .before .before .before .before .before .before .before .before .before .before .before .pre .1 .1 .1 .0) (c .before .before .before .before .before .before .before .before .before .before .before .before .before .before .before .before .before .pre .1 .1 .1 .1))) (c .before .before .before .before .before .before .before .if1 .left)) .source, c .before .before .before .before .before .before .before .before .before .before .before .before .before .before .before .before .before .pre .0 .0), omega (arith, (two-gates (judged (wire (c .before .before .before .before .before .before .before .before .before .before .before .before .before .before .before .before .before .args .gates) (c .before .before .before .before .before .before .before .before .before .before .before .before .before .before .before .before .before .pre .1 .1 .1 .0)) (c .before .before .before .before .before .before .before .before .before .before .before .before .before .before .before .before .before .args .file .now) (c .before .before .before .before .before .before .before .before .before .before .before .before .before .before .before .before .before .args .offset) (c .before .before .before .before .before .before .before .before .wire-fault .result) (c .before .before .before .before .before .before .before .before .before .before .due-field .result) (c .before .before .before .before .before .before .before .before .before .before .before .field-body .result .now) (c .before .before .before .before .before .before .before .before .before .before .due-field .ensures) (c .before .before .before .before .before .before .before .before .before .before .before .field-body .ensures .0) (c .before .before .before .before .before .before .before .before .wire-fault .ensures (c .before .before .before .before .before .before .before .before .before .before .before .before .before .before .before .before .before .pre .1 .1 .1 .0) (c .before .before .before .before .before .before .before .before .before .before .before .before .before .before .before .before .before .pre .1 .1 .1 .1))) (c .before .before .before .before .before .before .before .if1 .left)) .target, c .before .before .before .before .before .before .before .before .before .before .before .before .before .before .before .before .before .pre .0 .0)))
+mark-requires c κs =
+    let at-if1 = c .before .before .before .before .before .before .before in
+    let at-wire-fault = at-if1 .before in
+    let start = at-wire-fault .before .before .before .before .before .before .before .before .before in
+    (start .pre .1 .1 .0, (omega (arith, two-gates (field-judged at-wire-fault (start .pre .1 .1 .1 .0) (start .pre .1 .1 .1 .1)) (at-if1 .if1 .left) .source, start .pre .0 .0), omega (arith, two-gates (field-judged at-wire-fault (start .pre .1 .1 .1 .0) (start .pre .1 .1 .1 .1)) (at-if1 .if1 .left) .target, start .pre .0 .0)))
 
 add-t19 : tie.Need-add-t19
-add-t19 c = omega (arith, judged-inside (judged (wire (c .before .before .before .before .before .before .before .before .before .before .before .before .before .before .before .before .before .before .before .before .args .gates) (c .before .before .before .before .before .before .before .before .before .before .before .before .before .before .before .before .before .before .before .before .pre .1 .1 .1 .0)) (c .before .before .before .before .before .before .before .before .before .before .before .before .before .before .before .before .before .before .before .before .args .file .now) (c .before .before .before .before .before .before .before .before .before .before .before .before .before .before .before .before .before .before .before .before .args .offset) (c .before .before .before .before .before .before .before .before .before .before .before .wire-fault .result) (c .before .before .before .before .before .before .before .before .before .before .before .before .before .due-field .result) (c .before .before .before .before .before .before .before .before .before .before .before .before .before .before .field-body .result .now) (c .before .before .before .before .before .before .before .before .before .before .before .before .before .due-field .ensures) (c .before .before .before .before .before .before .before .before .before .before .before .before .before .before .field-body .ensures .0) (c .before .before .before .before .before .before .before .before .before .before .before .wire-fault .ensures (c .before .before .before .before .before .before .before .before .before .before .before .before .before .before .before .before .before .before .before .before .pre .1 .1 .1 .0) (c .before .before .before .before .before .before .before .before .before .before .before .before .before .before .before .before .before .before .before .before .pre .1 .1 .1 .1))) (c .before .before .before .before .before .before .before .before .before .before .if1 .left))
+add-t19 c =
+    let at-if1 = c .before .before .before .before .before .before .before .before .before .before in
+    let at-wire-fault = at-if1 .before in
+    let start = at-wire-fault .before .before .before .before .before .before .before .before .before in
+    omega (arith, judged-inside (field-judged at-wire-fault (start .pre .1 .1 .1 .0) (start .pre .1 .1 .1 .1)) (at-if1 .if1 .left))
 
 add-t31 : tie.Need-add-t31
-add-t31 c = omega (arith, judged-inside (judged (wire (c .before .before .before .before .before .before .before .before .before .before .before .before .before .before .before .before .before .before .before .before .args .gates) (c .before .before .before .before .before .before .before .before .before .before .before .before .before .before .before .before .before .before .before .before .pre .1 .1 .1 .0)) (c .before .before .before .before .before .before .before .before .before .before .before .before .before .before .before .before .before .before .before .before .args .file .now) (c .before .before .before .before .before .before .before .before .before .before .before .before .before .before .before .before .before .before .before .before .args .offset) (c .before .before .before .before .before .before .before .before .before .before .before .wire-fault .result) (c .before .before .before .before .before .before .before .before .before .before .before .before .before .due-field .result) (c .before .before .before .before .before .before .before .before .before .before .before .before .before .before .field-body .result .now) (c .before .before .before .before .before .before .before .before .before .before .before .before .before .due-field .ensures) (c .before .before .before .before .before .before .before .before .before .before .before .before .before .before .field-body .ensures .0) (c .before .before .before .before .before .before .before .before .before .before .before .wire-fault .ensures (c .before .before .before .before .before .before .before .before .before .before .before .before .before .before .before .before .before .before .before .before .pre .1 .1 .1 .0) (c .before .before .before .before .before .before .before .before .before .before .before .before .before .before .before .before .before .before .before .before .pre .1 .1 .1 .1))) (c .before .before .before .before .before .before .before .before .before .before .if1 .left))
+add-t31 c =
+    let at-if1 = c .before .before .before .before .before .before .before .before .before .before in
+    let at-wire-fault = at-if1 .before in
+    let start = at-wire-fault .before .before .before .before .before .before .before .before .before in
+    omega (arith, judged-inside (field-judged at-wire-fault (start .pre .1 .1 .1 .0) (start .pre .1 .1 .1 .1)) (at-if1 .if1 .left))
 
 same-length-2 : tie.Need-same-length-2
 same-length-2 c = search needs
@@ -84,8 +119,13 @@ same-length-5 : tie.Need-same-length-5
 same-length-5 c = search needs
 
 returns-2 : tie.Need-returns-2
-returns-2 c = let room = c .before .before .before .before .before .before .before .before .before .before .before .before .before .before .before .before .before .before .before .before .pre .1 .0 in
-    wire-found (λ ws m. judged (wire (c .before .before .before .before .before .before .before .before .before .before .before .before .before .before .before .before .before .before .before .before .args .gates) ws) (c .before .before .before .before .before .before .before .before .before .before .before .before .before .before .before .before .before .before .before .before .args .file .now) (c .before .before .before .before .before .before .before .before .before .before .before .before .before .before .before .before .before .before .before .before .args .offset) (c .before .before .before .before .before .before .before .before .before .before .before .wire-fault .result) (c .before .before .before .before .before .before .before .before .before .before .before .before .before .due-field .result) (c .before .before .before .before .before .before .before .before .before .before .before .before .before .before .field-body .result .now) (c .before .before .before .before .before .before .before .before .before .before .before .before .before .due-field .ensures) (c .before .before .before .before .before .before .before .before .before .before .before .before .before .before .field-body .ensures .0) (c .before .before .before .before .before .before .before .before .before .before .before .wire-fault .ensures ws m)) _ _ _ _ _ _ (omega (arith, room .sources, c .before .before .before .before .before .before .before .before .before .before .before .before .before .before .before .before .before .before .before .before .pre .0 .1)) (omega (arith, room .targets, c .before .before .before .before .before .before .before .before .before .before .before .before .before .before .before .before .before .before .before .before .pre .0 .1)) (omega (arith, room .delays, c .before .before .before .before .before .before .before .before .before .before .before .before .before .before .before .before .before .before .before .before .pre .0 .1)) (c .before .before .before .before .before .before .before .before .wide .ensures .0) (c .before .before .before .before .before .before .wide2 .ensures .0) (c .before .before .mark .ensures) (c .before .before .before .before .before .before .before .before .before .before .if1 .left)
+returns-2 c =
+    let at-wide2 = c .before .before .before .before .before .before in
+    let at-wide = at-wide2 .before .before in
+    let at-if1 = at-wide .before .before in
+    let at-wire-fault = at-if1 .before in
+    let start = at-wire-fault .before .before .before .before .before .before .before .before .before in
+    wire-found (field-judged at-wire-fault) _ _ _ _ _ _ (omega (arith, start .pre .1 .0 .sources, start .pre .0 .1)) (omega (arith, start .pre .1 .0 .targets, start .pre .0 .1)) (omega (arith, start .pre .1 .0 .delays, start .pre .0 .1)) (at-wide .wide .ensures .0) (at-wide2 .wide2 .ensures .0) (c .before .before .mark .ensures) (at-if1 .if1 .left)
 
 pub read-wire-spec : {M : Type 1} → statement M
 read-wire-spec = tie.close (tie.spec field-body-requires due-field-requires wire-fault-requires refusal-of-requires same-length returns shared-slice-read-wide wide-requires mul-sources slice-write-sources shared-slice-read-wide-2 wide-requires-2 mul-targets slice-write-targets mul-wire-delays slice-write-wire-delays shared-slice-read-mark shared-slice-read-mark-2 mark-requires add-t19 add-t31 same-length-2 same-length-3 same-length-4 same-length-5 returns-2)

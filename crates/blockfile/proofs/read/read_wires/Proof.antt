@@ -2,7 +2,7 @@
 -- Assumes nothing.
 use borrow.Author.Needs.{needs}
 use mathlib.Core.Path.{_≡_, refl, _∙_}
-use Prim.Native.Nat.{_-_, _<_, _≤_}
+use Prim.Native.Nat.{_-_, _≤_}
 use native.Mathlib.Omega.{arith}
 use lib.ListN.{length}
 use Rattle.blockfile.specs.Held.{wire-arrays, wires-held}
@@ -24,10 +24,17 @@ clear-requires : tie.Need-clear-requires Inv-loop μ-loop
 clear-requires c κs = c .before .before .before .before .before .before .pre .1 .1
 
 loop-holds : tie.Need-loop-holds Inv-loop μ-loop
-loop-holds c = (omega arith, wire-lengths-same _, refl, so-far-none _ _ _ _ _ (c .before .before .clear .ensures) (c .before .before .before .before .before .before .before .before .before .pre .0 .0))
+loop-holds c =
+    let start = c .before .before .before .before .before .before .before .before .before in
+    (omega arith, wire-lengths-same _, refl, so-far-none _ _ _ _ _ (c .before .before .clear .ensures) (start .pre .0 .0))
 
 read-wire-requires : tie.Need-read-wire-requires Inv-loop μ-loop
-read-wire-requires c κs = ((c .before .before .before .before .before .before .before .before .before .before .before .before .before .before .before .before .pre .0 .1, omega (arith, c .before .before .before .before .before .before .loop .inv .0, c .before .before .before .before .if2 .left)), (wire-lengths-room (c .before .before .before .before .before .before .loop .inv .1) (c .before .before .before .before .before .before .before .before .before .before .before .before .before .before .before .before .pre .1 .0), (omega (arith, c .before .before .before .before .before .before .loop .inv .2, c .before .before .before .before .before .before .before .before .before .clear .kept .0, c .before .before .before .before .before .before .before .before .before .before .before .before .before .before .before .before .pre .1 .1), (wires-held (wire-arrays (c .before .before .before .before .before .before .loop .sources) (c .before .before .before .before .before .before .loop .targets) (c .before .before .before .before .before .before .loop .wire-delays)) (c .before .before .before .before .before .before .loop .wires), c .before .before .before .before .before .before .loop .inv .3 .marks))))
+read-wire-requires c κs =
+    let at-if2 = c .before .before .before .before in
+    let at-loop = at-if2 .before .before in
+    let at-clear = at-loop .before .before .before in
+    let start = at-clear .before .before .before .before .before .before .before in
+    ((start .pre .0 .1, omega (arith, at-loop .loop .inv .0, at-if2 .if2 .left)), (wire-lengths-room (at-loop .loop .inv .1) (start .pre .1 .0), (omega (arith, at-loop .loop .inv .2, at-clear .clear .kept .0, start .pre .1 .1), (wires-held (wire-arrays (at-loop .loop .sources) (at-loop .loop .targets) (at-loop .loop .wire-delays)) (at-loop .loop .wires), at-loop .loop .inv .3 .marks))))
 
 enum-known-passed : tie.Need-enum-known-passed Inv-loop μ-loop
 enum-known-passed c = search needs
@@ -36,13 +43,23 @@ enum-known-passed-2 : tie.Need-enum-known-passed-2 Inv-loop μ-loop
 enum-known-passed-2 c = search needs
 
 add-wires : tie.Need-add-wires Inv-loop μ-loop
-add-wires c = omega (arith, c .before .before .before .before .before .before .before .before .before .before .before .before .before .before .before .before .before .before .loop .inv .0)
+add-wires c =
+    let at-loop = c .before .before .before .before .before .before .before .before .before .before .before .before .before .before .before .before .before .before in
+    omega (arith, at-loop .loop .inv .0)
 
 loop-less : tie.Need-loop-less Inv-loop μ-loop
-loop-less c = omega (arith, c .before .before .before .before .before .before .before .before .before .before .before .before .before .before .before .before .before .before .loop .inv .0, c .before .before .before .before .before .before .before .before .before .before .before .before .before .before .before .before .if2 .left)
+loop-less c =
+    let at-if2 = c .before .before .before .before .before .before .before .before .before .before .before .before .before .before .before .before in
+    let at-loop = at-if2 .before .before in
+    omega (arith, at-loop .loop .inv .0, at-if2 .if2 .left)
 
 loop-again : tie.Need-loop-again Inv-loop μ-loop
-loop-again c = (omega (arith, c .before .before .before .before .before .before .before .before .before .before .before .before .before .before .before .before .before .before .loop .inv .0, c .before .before .before .before .before .before .before .before .before .before .before .before .before .before .before .before .if2 .left), record { sources = c .before .before .before .before .before .before .before .before .before .before .before .read-wire .kept .1 .1 .1 .1 .0 ∙ c .before .before .before .before .before .before .before .before .before .before .before .before .before .before .before .before .before .before .loop .inv .1 .sources; targets = c .before .before .before .before .before .before .before .before .before .before .before .read-wire .kept .1 .1 .1 .1 .1 .0 ∙ c .before .before .before .before .before .before .before .before .before .before .before .before .before .before .before .before .before .before .loop .inv .1 .targets; delays = c .before .before .before .before .before .before .before .before .before .before .before .read-wire .kept .1 .1 .1 .1 .1 .1 .0 ∙ c .before .before .before .before .before .before .before .before .before .before .before .before .before .before .before .before .before .before .loop .inv .1 .delays }, c .before .before .before .before .before .before .before .before .before .before .before .read-wire .kept .1 .1 .1 .1 .1 .1 .1 .0 ∙ c .before .before .before .before .before .before .before .before .before .before .before .before .before .before .before .before .before .before .loop .inv .2, so-far-more (c .before .before .before .before .before .before .before .before .before .before .before .before .before .before .before .before .before .before .loop .inv .3) _ _ _ (c .before .before .before .before .before .before .before .before .before .before .before .before .before .before .before .before .before .if1 .left) (rw (c .before .passed2 .given .1) at (c .before .before .before .before .before .before .before .before .before .before .before .read-wire .ensures)))
+loop-again c =
+    let at-read-wire = c .before .before .before .before .before .before .before .before .before .before .before in
+    let at-if2 = at-read-wire .before .before .before .before .before in
+    let at-if1 = at-if2 .before in
+    let at-loop = at-if1 .before in
+    (omega (arith, at-loop .loop .inv .0, at-if2 .if2 .left), record { sources = at-read-wire .read-wire .kept .1 .1 .1 .1 .0 ∙ at-loop .loop .inv .1 .sources; targets = at-read-wire .read-wire .kept .1 .1 .1 .1 .1 .0 ∙ at-loop .loop .inv .1 .targets; delays = at-read-wire .read-wire .kept .1 .1 .1 .1 .1 .1 .0 ∙ at-loop .loop .inv .1 .delays }, at-read-wire .read-wire .kept .1 .1 .1 .1 .1 .1 .1 .0 ∙ at-loop .loop .inv .2, so-far-more (at-loop .loop .inv .3) _ _ _ (at-if1 .if1 .left) (rw (c .before .passed2 .given .1) at (at-read-wire .read-wire .ensures)))
 
 same-length : tie.Need-same-length Inv-loop μ-loop
 same-length c = c .before .loop .inv .1 .sources
@@ -75,19 +92,37 @@ returns-2 : tie.Need-returns-2 Inv-loop μ-loop
 returns-2 c = so-far-full (c .before .before .loop .inv .3) (c .if2 .taken) (c .before .if1 .left)
 
 same-length-9 : tie.Need-same-length-9 Inv-loop μ-loop
-same-length-9 c = c .before .before .before .before .before .before .before .before .before .before .before .read-wire .kept .1 .1 .1 .1 .0 ∙ c .before .before .before .before .before .before .before .before .before .before .before .before .before .before .before .before .before .before .loop .inv .1 .sources
+same-length-9 c =
+    let at-read-wire = c .before .before .before .before .before .before .before .before .before .before .before in
+    let at-loop = at-read-wire .before .before .before .before .before .before .before in
+    at-read-wire .read-wire .kept .1 .1 .1 .1 .0 ∙ at-loop .loop .inv .1 .sources
 
 same-length-10 : tie.Need-same-length-10 Inv-loop μ-loop
-same-length-10 c = c .before .before .before .before .before .before .before .before .before .before .before .read-wire .kept .1 .1 .1 .1 .1 .0 ∙ c .before .before .before .before .before .before .before .before .before .before .before .before .before .before .before .before .before .before .loop .inv .1 .targets
+same-length-10 c =
+    let at-read-wire = c .before .before .before .before .before .before .before .before .before .before .before in
+    let at-loop = at-read-wire .before .before .before .before .before .before .before in
+    at-read-wire .read-wire .kept .1 .1 .1 .1 .1 .0 ∙ at-loop .loop .inv .1 .targets
 
 same-length-11 : tie.Need-same-length-11 Inv-loop μ-loop
-same-length-11 c = c .before .before .before .before .before .before .before .before .before .before .before .read-wire .kept .1 .1 .1 .1 .1 .1 .0 ∙ c .before .before .before .before .before .before .before .before .before .before .before .before .before .before .before .before .before .before .loop .inv .1 .delays
+same-length-11 c =
+    let at-read-wire = c .before .before .before .before .before .before .before .before .before .before .before in
+    let at-loop = at-read-wire .before .before .before .before .before .before .before in
+    at-read-wire .read-wire .kept .1 .1 .1 .1 .1 .1 .0 ∙ at-loop .loop .inv .1 .delays
 
 same-length-12 : tie.Need-same-length-12 Inv-loop μ-loop
-same-length-12 c = c .before .before .before .before .before .before .before .before .before .before .before .read-wire .kept .1 .1 .1 .1 .1 .1 .1 .0 ∙ c .before .before .before .before .before .before .before .before .before .before .before .before .before .before .before .before .before .before .loop .inv .2 ∙ c .before .before .before .before .before .before .before .before .before .before .before .before .before .before .before .before .before .before .before .before .before .clear .kept .0
+same-length-12 c =
+    let at-read-wire = c .before .before .before .before .before .before .before .before .before .before .before in
+    let at-loop = at-read-wire .before .before .before .before .before .before .before in
+    let at-clear = at-loop .before .before .before in
+    at-read-wire .read-wire .kept .1 .1 .1 .1 .1 .1 .1 .0 ∙ at-loop .loop .inv .2 ∙ at-clear .clear .kept .0
 
 returns-3 : tie.Need-returns-3 Inv-loop μ-loop
-returns-3 c = so-far-refused (c .before .before .before .before .before .before .before .before .before .before .before .before .before .before .before .before .before .before .loop .inv .3) _ _ (c .before .passed .given .0 .0) (omega (arith, c .before .before .before .before .before .before .before .before .before .before .before .before .before .before .before .before .before .before .loop .inv .0, c .before .before .before .before .before .before .before .before .before .before .before .before .before .before .before .before .if2 .left)) (c .before .before .before .before .before .before .before .before .before .before .before .before .before .before .before .before .before .if1 .left) (rw (c .before .passed .given .1) at (c .before .before .before .before .before .before .before .before .before .before .before .read-wire .ensures))
+returns-3 c =
+    let at-read-wire = c .before .before .before .before .before .before .before .before .before .before .before in
+    let at-if2 = at-read-wire .before .before .before .before .before in
+    let at-if1 = at-if2 .before in
+    let at-loop = at-if1 .before in
+    so-far-refused (at-loop .loop .inv .3) _ _ (c .before .passed .given .0 .0) (omega (arith, at-loop .loop .inv .0, at-if2 .if2 .left)) (at-if1 .if1 .left) (rw (c .before .passed .given .1) at (at-read-wire .read-wire .ensures))
 
 pub read-wires-spec : {M : Type 1} → statement M
 read-wires-spec = tie.close (tie.spec Inv-loop μ-loop clear-requires loop-holds read-wire-requires enum-known-passed enum-known-passed-2 add-wires loop-less loop-again same-length same-length-2 same-length-3 same-length-4 returns same-length-5 same-length-6 same-length-7 same-length-8 returns-2 same-length-9 same-length-10 same-length-11 same-length-12 returns-3)

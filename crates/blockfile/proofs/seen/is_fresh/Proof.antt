@@ -28,7 +28,10 @@ shared-slice-read-result : tie.Need-shared-slice-read-result
 shared-slice-read-result c = omega arith
 
 returns-2 : tie.Need-returns-2
-returns-2 c = λ ws m. rw (ne-eqb _ _ (c .before .before .before .before .if1 .left), c .before .pair-place .ensures) (m .at-pair _ _ (c .before .before .before .before .before .before .before .before .before .pre .1 .0 .0) (c .before .before .before .before .before .before .before .before .before .pre .1 .0 .1))
+returns-2 c =
+    let at-if1 = c .before .before .before .before in
+    let start = at-if1 .before .before .before .before .before in
+    λ ws m. rw (ne-eqb _ _ (at-if1 .if1 .left), c .before .pair-place .ensures) (m .at-pair _ _ (start .pre .1 .0 .0) (start .pre .1 .0 .1))
 
 pub is-fresh-spec : {M : Type 1} → statement M
 is-fresh-spec = tie.close (tie.spec shared-slice-read-if1 shared-slice-read-if1-2 returns shared-slice-read-pair-place shared-slice-read-pair-place-2 pair-place-requires shared-slice-read-result returns-2)

@@ -11,10 +11,14 @@ use Rattle.blockfile.proofs.store.store_gate.Statement.{statement}
 use Rattle.blockfile.proofs.store.store_gate.Tie as tie
 
 number-at-requires : tie.Need-number-at-requires
-number-at-requires c κs = let h = gate-length (length (c .before .before .before .before .before .before .args .body .now)) (c .before .before .before .before .before .before .pre .0) in omega arith
+number-at-requires c κs =
+    let start = c .before .before .before .before .before .before in
+    let h = gate-length (length (start .args .body .now)) (start .pre .0) in omega arith
 
 number-at-requires-2 : tie.Need-number-at-requires-2
-number-at-requires-2 c κs = let h = gate-length (length (c .before .before .before .before .before .before .before .args .body .now)) (c .before .before .before .before .before .before .before .pre .0) in omega arith
+number-at-requires-2 c κs =
+    let start = c .before .before .before .before .before .before .before in
+    let h = gate-length (length (start .args .body .now)) (start .pre .0) in omega arith
 
 mul-delays : tie.Need-mul-delays
 mul-delays c = search needs
@@ -32,17 +36,23 @@ slice-write-activities : tie.Need-slice-write-activities
 slice-write-activities c = search needs
 
 sub-store-steps : tie.Need-sub-store-steps
-sub-store-steps c = let h = gate-length (length (c .before .before .before .before .before .before .before .before .before .args .body .now)) (c .before .before .before .before .before .before .before .before .before .pre .0) in omega arith
+sub-store-steps c =
+    let start = c .before .before .before .before .before .before .before .before .before in
+    let h = gate-length (length (start .args .body .now)) (start .pre .0) in omega arith
 
 part-store-steps-start : tie.Need-part-store-steps-start
-part-store-steps-start c = gate-length (length (c .before .before .before .before .before .before .before .before .before .args .body .now)) (c .before .before .before .before .before .before .before .before .before .pre .0) .least
+part-store-steps-start c =
+    let start = c .before .before .before .before .before .before .before .before .before in
+    gate-length (length (start .args .body .now)) (start .pre .0) .least
 
 part-store-steps-end : tie.Need-part-store-steps-end
 part-store-steps-end c = search needs
 
 store-steps-requires : tie.Need-store-steps-requires
-store-steps-requires c κs = let h = gate-length (length (c .before .before .before .before .before .before .before .before .before .before .before .before .args .body .now)) (c .before .before .before .before .before .before .before .before .before .before .before .before .pre .0) in let room = c .before .before .before .before .before .before .before .before .before .before .before .before .pre .1 .1 in
-    ((rw (steps-part (c .before .before .before .before .before .before .before .before .before .before .before .before .args .body .now), length-drop) (omega arith), rw (steps-part (c .before .before .before .before .before .before .before .before .before .before .before .before .args .body .now), length-drop) (omega arith)), (c .before .before .before .before .before .before .before .before .before .before .before .before .pre .1 .0, (room .step-widths, room .drops)))
+store-steps-requires c κs =
+    let start = c .before .before .before .before .before .before .before .before .before .before .before .before in
+    let h = gate-length (length (start .args .body .now)) (start .pre .0) in let room = start .pre .1 .1 in
+    ((rw (steps-part (start .args .body .now), length-drop) (omega arith), rw (steps-part (start .args .body .now), length-drop) (omega arith)), (start .pre .1 .0, (room .step-widths, room .drops)))
 
 mul-counts : tie.Need-mul-counts
 mul-counts c = search needs
@@ -66,7 +76,13 @@ same-length-5 : tie.Need-same-length-5
 same-length-5 c = search needs
 
 returns : tie.Need-returns
-returns c = let h = c .before .before .before .before .before .before .before .before .before .before .before .before .before .before .before .before .before .pre .1 .0 in let room = c .before .before .before .before .before .before .before .before .before .before .before .before .before .before .before .before .before .pre .1 .1 in gate-stored (c .before .before .before .before .before .before .before .before .before .before .before .before .before .before .before .before .before .args .body .now) (c .before .before .before .before .before .before .before .before .before .before .before .before .before .before .before .before .before .args .gate) _ _ _ _ _ _ _ _ _ _ (omega (arith, room .delays)) (omega (arith, room .activities)) (omega (arith, room .counts)) (c .before .before .before .before .before .before .before .before .before .number-at2 .ensures) (c .before .before .before .before .before .before .before .before .activity-of .ensures ∙ ap activity (c .before .before .before .before .before .before .before .before .before .before .number-at .ensures)) (c .before .before .before .before .store-steps .ensures)
+returns c =
+    let at-store-steps = c .before .before .before .before in
+    let at-activity-of = at-store-steps .before .before .before .before in
+    let at-number-at2 = at-activity-of .before in
+    let at-number-at = at-number-at2 .before in
+    let start = at-number-at .before .before .before .before .before .before .before in
+    let h = start .pre .1 .0 in let room = start .pre .1 .1 in gate-stored (start .args .body .now) (start .args .gate) _ _ _ _ _ _ _ _ _ _ (omega (arith, room .delays)) (omega (arith, room .activities)) (omega (arith, room .counts)) (at-number-at2 .number-at2 .ensures) (at-activity-of .activity-of .ensures ∙ ap activity (at-number-at .number-at .ensures)) (at-store-steps .store-steps .ensures)
 
 pub store-gate-spec : {M : Type 1} → statement M
 store-gate-spec = tie.close (tie.spec number-at-requires number-at-requires-2 mul-delays slice-write-delays activity-of-requires mul-activities slice-write-activities sub-store-steps part-store-steps-start part-store-steps-end store-steps-requires mul-counts slice-write-counts same-length same-length-2 same-length-3 same-length-4 same-length-5 returns)

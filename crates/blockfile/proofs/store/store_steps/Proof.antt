@@ -57,7 +57,10 @@ loop-less : tie.Need-loop-less Inv-loop μ-loop
 loop-less c = omega arith
 
 loop-again : tie.Need-loop-again Inv-loop μ-loop
-loop-again c = (omega arith, length-set (c .before .before .before .loop .step-widths) ((c .before .before .before .before .before .before .before .args .gate) * 8 + c .before .before .before .loop .j) (c .before .number-at .result) ∙ c .before .before .before .loop .inv .1, length-set (c .before .before .before .loop .drops) ((c .before .before .before .before .before .before .before .args .gate) * 8 + c .before .before .before .loop .j) (c .number-at2 .result) ∙ c .before .before .before .loop .inv .2, steps-more (c .before .before .before .before .before .before .before .args .steps .now) (c .before .before .before .before .before .before .before .args .gate) (c .before .before .before .loop .j) _ _ (c .before .before .before .loop .step-widths) (c .before .before .before .loop .drops) _ _ (omega arith) (omega arith) (c .before .number-at .ensures) (c .number-at2 .ensures) (c .before .before .before .loop .inv .3))
+loop-again c =
+    let at-loop = c .before .before .before in
+    let start = at-loop .before .before .before .before in
+    (omega arith, length-set (at-loop .loop .step-widths) ((start .args .gate) * 8 + at-loop .loop .j) (c .before .number-at .result) ∙ at-loop .loop .inv .1, length-set (at-loop .loop .drops) ((start .args .gate) * 8 + at-loop .loop .j) (c .number-at2 .result) ∙ at-loop .loop .inv .2, steps-more (start .args .steps .now) (start .args .gate) (at-loop .loop .j) _ _ (at-loop .loop .step-widths) (at-loop .loop .drops) _ _ (omega arith) (omega arith) (c .before .number-at .ensures) (c .number-at2 .ensures) (at-loop .loop .inv .3))
 
 cast-result : tie.Need-cast-result Inv-loop μ-loop
 cast-result c = omega arith
@@ -69,7 +72,9 @@ same-length-2 : tie.Need-same-length-2 Inv-loop μ-loop
 same-length-2 c = c .before .loop .inv .2
 
 returns : tie.Need-returns Inv-loop μ-loop
-returns c = let e : c .before .loop .j ≡ length (c .before .before .before .before .before .args .steps .now) / 4 = omega arith in steps-all (c .before .before .before .before .before .args .steps .now) (c .before .before .before .before .before .args .gate) (length (c .before .before .before .before .before .args .steps .now) / 4) _ _ (c .before .loop .step-widths) (c .before .loop .drops) (c .before .before .before .before .before .pre .0 .0) (c .before .before .before .before .before .pre .0 .1) refl (rw e at (c .before .loop .inv .3))
+returns c =
+    let start = c .before .before .before .before .before in
+    let e : c .before .loop .j ≡ length (start .args .steps .now) / 4 = omega arith in steps-all (start .args .steps .now) (start .args .gate) (length (start .args .steps .now) / 4) _ _ (c .before .loop .step-widths) (c .before .loop .drops) (start .pre .0 .0) (start .pre .0 .1) refl (rw e at (c .before .loop .inv .3))
 
 pub store-steps-spec : {M : Type 1} → statement M
 store-steps-spec = tie.close (tie.spec Inv-loop μ-loop loop-holds mul-place add-place mul-number-at number-at-requires mul-step-widths slice-write-step-widths mul-number-at-2 add-number-at number-at-requires-2 mul-drops slice-write-drops add-j loop-less loop-again cast-result same-length same-length-2 returns)
