@@ -302,4 +302,5 @@ def main():
     print("second opinion: %d cases, %d of them by trying every list" % (count, tried))
 
 
-main()
+if __name__ == "__main__":
+    main()

@@ -1,0 +1,107 @@
+#!/usr/bin/env python3
+"""Writes stdin and stdout of crates/calls_cases.
+
+stdin: records, each the length of a block file (2 bytes, high byte first), how many elements are lent (1 byte), as many increases of
+4 bytes each, and the file's bytes. stdout: for each record what document 01 says of the slacks and of the judging, by the
+reader of second_opinion.py, which shares nothing with the crate; lent elements that are not written stay 77777."""
+from pathlib import Path
+
+from second_opinion import Block, Refused
+
+UNWRITTEN = 77777
+
+
+def two(number):
+    return bytes([number >> 8, number & 255])
+
+
+def field(tag, body):
+    return bytes([tag]) + two(len(body)) + body
+
+
+def block_file(deadline, gates, wires, arrival=0, p=128):
+    """Gates are (delay, p, steps)."""
+    head = bytes([1, len(gates)]) + two(arrival) + two(deadline) + two(p)
+    file = field(1, head)
+    for delay, gate_p, steps in gates:
+        file += field(2, two(delay) + two(gate_p) + b"".join(two(w) + two(d) for w, d in steps))
+    return file + b"".join(field(3, bytes(wire)) for wire in wires)
+
+
+def diamond(deadline, arrival=0):
+    steps = [[], [(2, 5), (3, 2)], [(4, 4)], [(5, 6)]]
+    gates = [(delay, 128, some) for delay, some in zip([2, 3, 1, 2], steps)]
+    return block_file(deadline, gates, [(0, 1), (0, 2), (1, 3), (2, 3)], arrival)
+
+
+def plain(n, wires, deadline=100):
+    return block_file(deadline, [(1, 128, [])] * n, wires)
+
+
+def records():
+    for increases in [(0, 0, 0, 3), (0, 0, 2, 4), (0, 6, 0, 0), (0, 0, 2, 3, 9, 9), (0, 0, 2), (), (0, 2, 4, 5), (2**32 - 1,) * 4]:
+        yield diamond(10), increases
+    yield diamond(14), (0, 2, 4, 5)
+    yield diamond(6), (0, 0, 0, 0)
+    yield diamond(7, arrival=65535), (0, 0, 0, 0)
+    yield b"", (0,)
+    yield diamond(10)[:20], (0, 0, 0, 0)
+    yield diamond(10) + b"\3", (0, 0, 0, 0)
+    yield block_file(8, [(5, 128, [(2, 3)])], []), (2,)
+    yield block_file(8, [(5, 128, [(2, 3)])], []), (3,)
+    yield block_file(8, [(5, 128, [(2, 3)])], [], p=0), (2,)
+    yield plain(4, [(0, 1), (0, 2), (1, 2), (1, 3), (2, 3)]), (0, 0, 0, 0)
+    yield plain(4, [(0, 1), (1, 2), (2, 1), (2, 3)]), (0, 0, 0, 0)
+    yield plain(4, [(0, 1), (1, 3)]), (0, 0, 0, 0)
+    yield plain(3, [(0, 1), (1, 2), (2, 0)]), (0, 0, 0)
+    yield plain(3, [(2, 1), (1, 0)]), (0, 0, 0)
+    chain = [(4095, 128, [(4095, 1000), (4095, 999)])] * 3
+    yield block_file(65535, chain, [(0, 1), (1, 2)]), (8190, 8190, 8190)
+    yield block_file(65535, chain, [(0, 1), (1, 2)]), (8190, 8191, 8190)
+
+
+def answered(call):
+    try:
+        return call()
+    except Refused as refused:
+        return refused
+
+
+def refusal(refused):
+    return " refused %d %d" % refused.args
+
+
+def slacks_line(block, lent):
+    elements = [UNWRITTEN] * lent
+    if isinstance(block, Refused):
+        said = refusal(block)
+    elif lent < block.n:
+        said = " refused 10 %d" % block.n
+    else:
+        said = " %d" % block.n
+        elements[: block.n] = block.slacks()
+    return "slacks" + said + " :" + "".join(" %d" % x for x in elements)
+
+
+def judge_line(block, increases):
+    if isinstance(block, Refused):
+        return "judge" + refusal(block)
+    if len(increases) < block.n:
+        return "judge refused 10 %d" % block.n
+    saved = answered(lambda: block.judge(increases))
+    return "judge" + (refusal(saved) if isinstance(saved, Refused) else " %d" % saved)
+
+
+def main():
+    folder = Path(__file__).parents[2] / "crates" / "calls_cases"
+    given, said = b"", ""
+    for file, increases in records():
+        given += two(len(file)) + bytes([len(increases)]) + b"".join(x.to_bytes(4, "big") for x in increases) + file
+        block = answered(lambda: Block(file))
+        said += slacks_line(block, len(increases)) + "\n" + judge_line(block, increases) + "\n"
+    (folder / "stdin").write_bytes(given)
+    (folder / "stdout").write_text(said)
+
+
+if __name__ == "__main__":
+    main()
