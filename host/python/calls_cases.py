@@ -1,9 +1,10 @@
 #!/usr/bin/env python3
 """Writes stdin and stdout of crates/calls_cases.
 
-stdin: records, each the length of a block file (2 bytes, high byte first), how many elements are lent (1 byte), as many increases of
-4 bytes each, and the file's bytes. stdout: for each record what document 01 says of the slacks and of the judging, by the
-reader of second_opinion.py, which shares nothing with the crate; lent elements that are not written stay 77777."""
+stdin: records, each the length of a block file (2 bytes, high byte first), four increases of 4 bytes each, and the file's bytes.
+stdout: for each record what document 01 says of the slacks, to six lent elements and to three, and of the judging of the four
+increases and of the first three, by the reader of second_opinion.py, which shares nothing with the crate. Lent elements that
+are not written stay 77777; a slack below 0 is printed as late."""
 from pathlib import Path
 
 from second_opinion import Block, Refused
@@ -39,25 +40,27 @@ def plain(n, wires, deadline=100):
 
 
 def records():
-    for increases in [(0, 0, 0, 3), (0, 0, 2, 4), (0, 6, 0, 0), (0, 0, 2, 3, 9, 9), (0, 0, 2), (), (0, 2, 4, 5), (2**32 - 1,) * 4]:
+    for increases in [(0, 0, 0, 3), (0, 0, 2, 4), (0, 6, 0, 0), (0, 0, 2, 3), (0, 2, 4, 5), (2**32 - 1,) * 4]:
         yield diamond(10), increases
     yield diamond(14), (0, 2, 4, 5)
     yield diamond(6), (0, 0, 0, 0)
     yield diamond(7, arrival=65535), (0, 0, 0, 0)
-    yield b"", (0,)
+    yield b"", (0, 0, 0, 0)
     yield diamond(10)[:20], (0, 0, 0, 0)
     yield diamond(10) + b"\3", (0, 0, 0, 0)
-    yield block_file(8, [(5, 128, [(2, 3)])], []), (2,)
-    yield block_file(8, [(5, 128, [(2, 3)])], []), (3,)
-    yield block_file(8, [(5, 128, [(2, 3)])], [], p=0), (2,)
+    lone = [(5, 128, [(2, 3)])]
+    yield block_file(8, lone, []), (2, 0, 0, 0)
+    yield block_file(8, lone, []), (3, 0, 0, 0)
+    yield block_file(8, lone, [], p=0), (2, 0, 0, 0)
     yield plain(4, [(0, 1), (0, 2), (1, 2), (1, 3), (2, 3)]), (0, 0, 0, 0)
     yield plain(4, [(0, 1), (1, 2), (2, 1), (2, 3)]), (0, 0, 0, 0)
     yield plain(4, [(0, 1), (1, 3)]), (0, 0, 0, 0)
-    yield plain(3, [(0, 1), (1, 2), (2, 0)]), (0, 0, 0)
-    yield plain(3, [(2, 1), (1, 0)]), (0, 0, 0)
+    yield plain(3, [(0, 1), (1, 2), (2, 0)]), (0, 0, 0, 0)
+    yield plain(3, [(2, 1), (1, 0)]), (0, 0, 0, 0)
+    yield plain(7, [(g, g + 1) for g in range(6)]), (0, 0, 0, 0)
     chain = [(4095, 128, [(4095, 1000), (4095, 999)])] * 3
-    yield block_file(65535, chain, [(0, 1), (1, 2)]), (8190, 8190, 8190)
-    yield block_file(65535, chain, [(0, 1), (1, 2)]), (8190, 8191, 8190)
+    yield block_file(65535, chain, [(0, 1), (1, 2)]), (8190, 8190, 8190, 7)
+    yield block_file(65535, chain, [(0, 1), (1, 2)]), (8190, 8191, 8190, 7)
 
 
 def answered(call):
@@ -80,7 +83,7 @@ def slacks_line(block, lent):
     else:
         said = " %d" % block.n
         elements[: block.n] = block.slacks()
-    return "slacks" + said + " :" + "".join(" %d" % x for x in elements)
+    return "slacks" + said + " :" + "".join(" %d" % x if x >= 0 else " late" for x in elements)
 
 
 def judge_line(block, increases):
@@ -96,9 +99,10 @@ def main():
     folder = Path(__file__).parents[2] / "crates" / "calls_cases"
     given, said = b"", ""
     for file, increases in records():
-        given += two(len(file)) + bytes([len(increases)]) + b"".join(x.to_bytes(4, "big") for x in increases) + file
+        given += two(len(file)) + b"".join(x.to_bytes(4, "big") for x in increases) + file
         block = answered(lambda: Block(file))
-        said += slacks_line(block, len(increases)) + "\n" + judge_line(block, increases) + "\n"
+        lines = [slacks_line(block, 6), slacks_line(block, 3), judge_line(block, increases), judge_line(block, increases[:3])]
+        said += "".join(line + "\n" for line in lines)
     (folder / "stdin").write_bytes(given)
     (folder / "stdout").write_text(said)
 

@@ -81,11 +81,8 @@ module _ {s : List ℕ} {m : ℕ} {b : List ℕ} (j : Judged block s 0 m b) wher
       block-wires-refused x e = whole-refused s x (decode-wires-refused s header (drawn .was-found) (sym e))
 
       -- the block is found
-      pub block-found : (ws : List Wire) (arrival deadline u : ℕ) → found ws (length s) ≡ read-wires max-wires (getD b 1 0) [] s q
-          → arrival ≡ number b 2
-          → deadline ≡ number b 4
-          → u ≡ activity (number b 6)
-          → found (record { arrival = arrival; deadline = deadline; activity = u; gates = gs; wires = ws }) (length s) ≡ read-block s
-      block-found ws arrival deadline u e ea ed eu =
-          rw (ea, ed, eu, drawn .seen)
+      pub block-found : (ws : List Wire) → found ws (length s) ≡ read-wires max-wires (getD b 1 0) [] s q
+          → found (record { arrival = number b 2; deadline = number b 4; activity = activity (number b 6); gates = gs; wires = ws }) (length s) ≡ read-block s
+      block-found ws e =
+          rw (drawn .seen)
           (whole-found s (netlist (says block b) (drawn .value) ws) (length s) (decode-found s header (drawn .was-found) (sym e)))

@@ -4,6 +4,8 @@ use mathlib.Core.List.{List, _∷_}
 use Prim.Native.Nat.{ℕ}
 use lib.ListN.{length, getD}
 use Rattle.model.specs.declared.Refusal.{Refusal}
+use Rattle.model.specs.Activity.{activity}
+use Rattle.model.specs.Field.{number}
 use Rattle.model.specs.Block.{Wire, Block}
 use Rattle.model.specs.Netlist.{gate-of}
 use Rattle.model.specs.File.{Reading, found, refused, gate, wire, read-field}
@@ -46,6 +48,10 @@ pub record WireRead (s : List ℕ) (o n i : ℕ) (old new : WireArrays) (table t
 abbrev pub wires-passing : List ℕ → WiresRead → WireArrays → Reading (List Wire)
 wires-passing s (Wires.Read m) A = found (wires-held A m) (length s)
 wires-passing s (Wires.Refused x) A = refusing x
+
+-- the numbers of a block field's body, with a wire count
+abbrev pub said-of : List ℕ → ℕ → BlockRead
+said-of b m = Whole.Read (getD b 1 0) m (number b 2) (number b 4) (activity (number b 6))
 
 -- the block in the arrays, up to the end of the file
 abbrev pub block-passing : List ℕ → BlockRead → GateArrays → WireArrays → Reading Block

@@ -9,7 +9,7 @@ ghost use Rattle.model.specs.Block.{Wire};
 ghost use Rattle.model.specs.Netlist.{gate-of};
 ghost use Rattle.model.specs.File.{read-gates, read-wires, read-block};
 ghost use Rattle.blockfile.specs.Held.{gate-arrays, gates-held, GateRoom, wire-arrays, WireRoom};
-ghost use Rattle.blockfile.specs.Reads.{GateRead, WireRead, passing, reading-map, wires-passing, block-passing};
+ghost use Rattle.blockfile.specs.Reads.{GateRead, WireRead, passing, reading-map, wires-passing, said-of, block-passing};
 ghost use Rattle.blockfile.specs.Seen.{pairs, Marks};
 use crate::fault::block_fault;
 use crate::fault::gate_fault;
@@ -195,6 +195,20 @@ pub fn read_wires(
     }
 }
 
+// What the body of the block field says of a block with so many wires.
+pub fn block_said(body: &[u8], wires: usize) -> BlockRead
+    requires { ⌜ length (now body) ≡ 8 ⌝ }
+    ensures { λ r. ⌜ r ≡ said-of (now (body .entry)) wires ⌝ }
+{
+    BlockRead::Read {
+        gates: body[1] as usize,
+        wires,
+        arrival: number_at(body, 2),
+        deadline: number_at(body, 4),
+        activity: activity_of(number_at(body, 6)),
+    }
+}
+
 // A block file read into the arrays: the block that they hold, or the first refusal of 1 to 7.
 pub fn read_block(
     file: &[u8],
@@ -235,13 +249,7 @@ pub fn read_block(
             let ended = read_wires(file, next, gates, sources, targets, wire_delays, seen);
             match ended {
                 WiresRead::Refused(refusal) => BlockRead::Refused(refusal),
-                WiresRead::Read { wires } => BlockRead::Read {
-                    gates: gates as usize,
-                    wires,
-                    arrival: number_at(body, 2),
-                    deadline: number_at(body, 4),
-                    activity: activity_of(number_at(body, 6)),
-                },
+                WiresRead::Read { wires } => block_said(body, wires),
             }
         }
     }

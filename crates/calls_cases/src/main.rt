@@ -1,6 +1,7 @@
 // Runs the slacks and the judging of stored block files, and prints what they answer.
-// Standard input: records, each the length of a block file (2 bytes), how many elements are lent (1 byte), as many increases of 4 bytes each, and the file's bytes.
-ghost use Prim.Native.Nat.{_+_, _*_, _≤_};
+// Standard input: records, each the length of a block file (2 bytes), four increases of 4 bytes each, and the file's bytes.
+ghost use mathlib.Core.Path.{_≡_};
+ghost use Prim.Native.Nat.{_+_, _≤_};
 ghost use lib.ListN.{length};
 use blockfile::field::number_at;
 use libc::STDOUT_FILENO;
@@ -15,11 +16,10 @@ fn print_number(n: u64) {
     io::print_decimal(STDOUT_FILENO, n);
 }
 
-// Prints a signed number.
-fn print_signed(x: i32) {
+// Prints a slack, or that it is below 0.
+fn print_slack(x: i32) {
     if x < 0 {
-        io::write_all(STDOUT_FILENO, b" -");
-        io::print_decimal(STDOUT_FILENO, (0 - (x as i64)) as u64);
+        io::write_all(STDOUT_FILENO, b" late");
     } else {
         print_number(x as u64);
     }
@@ -63,28 +63,44 @@ fn print_call_refusal(refusal: Refusal) {
     }
 }
 
-// Prints all of the lent elements.
-fn print_elements(xs: &[i32]) {
+// Prints the elements of a slice.
+fn print_slacks(xs: &[i32]) {
     let mut i = 0;
     while i < xs.len() {
-        print_signed(xs[i]);
+        print_slack(xs[i]);
         i += 1;
     }
 }
 
-// The slacks, to as many elements as are lent, each 77777 before.
-fn run_slacks(file: &[u8], lent: usize)
-    requires { ⌜ lent ≤ 255 ⌝ }
-{
-    let mut out = [77777i32; 255];
-    let answer = slacks(file, &mut out[..lent]);
+fn print_slacks_answer(answer: SlacksAnswer) {
     io::write_all(STDOUT_FILENO, b"slacks");
     match answer {
         SlacksAnswer::Refused(refusal) => print_file_refusal(refusal),
         SlacksAnswer::Given { gates } => print_number(gates as u64),
     }
     io::write_all(STDOUT_FILENO, b" :");
-    print_elements(&out[..lent]);
+}
+
+// The slacks, to six elements that are 77777 before, and to three.
+fn run_slacks(file: &[u8]) {
+    let mut out = [77777i32; 6];
+    let answer = slacks(file, &mut out);
+    print_slacks_answer(answer);
+    print_slacks(&out);
+    end_line();
+    let mut short = [77777i32; 3];
+    let answer = slacks(file, &mut short);
+    print_slacks_answer(answer);
+    print_slacks(&short);
+    end_line();
+}
+
+fn print_judge_answer(answer: JudgeAnswer) {
+    io::write_all(STDOUT_FILENO, b"judge");
+    match answer {
+        JudgeAnswer::Refused(refusal) => print_file_refusal(refusal),
+        JudgeAnswer::Accepted { saving } => print_number(saving),
+    }
     end_line();
 }
 
@@ -95,38 +111,31 @@ fn four_bytes(s: &[u8], at: usize) -> u32
     number_at(s, at) * 65536 + number_at(s, at + 2)
 }
 
-// The verdict on the increases that stand in front of `rest`.
-fn run_judge(file: &[u8], rest: &[u8], lent: usize)
-    requires { ⌜ (lent ≤ 255) × (lent * 4 ≤ length (now rest)) ⌝ }
+// The verdict on the four increases of a record, and on the first three alone.
+fn run_judge(file: &[u8], case: &[u8])
+    requires { ⌜ length (now case) ≡ 18 ⌝ }
 {
-    let mut increases = [0u32; 255];
-    let mut i: usize = 0;
-    while i < lent {
-        increases[i] = four_bytes(rest, i * 4);
-        i += 1;
-    }
-    let answer = judge(file, &increases[..lent]);
-    io::write_all(STDOUT_FILENO, b"judge");
-    match answer {
-        JudgeAnswer::Refused(refusal) => print_file_refusal(refusal),
-        JudgeAnswer::Accepted { saving } => print_number(saving),
-    }
-    end_line();
+    let a = four_bytes(case, 2);
+    let b = four_bytes(case, 6);
+    let c = four_bytes(case, 10);
+    let d = four_bytes(case, 14);
+    let increases = [a, b, c, d];
+    print_judge_answer(judge(file, &increases));
+    let short = [a, b, c];
+    print_judge_answer(judge(file, &short));
 }
 
 // All records of an input.
 fn run_all(input: &[u8]) {
     let mut at: usize = 0;
-    while at + 3 <= input.len() {
-        let size = number_at(input, at) as usize;
-        let lent = input[at + 2] as usize;
-        let from = at + 3 + lent * 4;
-        let to = from + size;
+    while at + 18 <= input.len() {
+        let from = at + 18;
+        let to = from + number_at(input, at) as usize;
         if input.len() < to {
             return;
         }
-        run_slacks(&input[from..to], lent);
-        run_judge(&input[from..to], &input[at + 3..from], lent);
+        run_slacks(&input[from..to]);
+        run_judge(&input[from..to], &input[at..from]);
         at = to;
     }
 }

@@ -1,9 +1,7 @@
 -- `blockfile::read::read_block` meets its contract: the block field, the gates and the wires in turn, each refused or read.
 -- Assumes nothing.
 use borrow.Author.Needs.{needs}
-use mathlib.Core.Path.{_∙_, ap}
 use native.Mathlib.Omega.{arith}
-use Rattle.model.specs.Activity.{activity}
 use Rattle.model.specs.File.{block}
 use Rattle.blockfile.proofs.Judged.{Judged, judged, at-most-6}
 use Rattle.blockfile.proofs.Whole.{block-refused, eight-bytes, gates-at-most, block-gates-refused, wires-from, block-wires-refused, block-found}
@@ -66,32 +64,11 @@ enum-known-ended c = search needs
 enum-known-ended-2 : tie.Need-enum-known-ended-2
 enum-known-ended-2 c = search needs
 
-cast-t48 : tie.Need-cast-t48
-cast-t48 c =
+block-said-requires : tie.Need-block-said-requires
+block-said-requires c κs =
     let at-if1 = c .before .before .before .before .before .before .before .before .before .before .before .before .before .before .before .before .before .before .before .before .before .before .before .before .before .before .before .before .before .before .before .before .before .before .before .before in
     let at-block-fault = at-if1 .before in
-    omega (arith, gates-at-most (field-judged at-block-fault) (at-if1 .if1 .left))
-
-number-at-requires : tie.Need-number-at-requires
-number-at-requires c κs =
-    let at-if1 = c .before .before .before .before .before .before .before .before .before .before .before .before .before .before .before .before .before .before .before .before .before .before .before .before .before .before .before .before .before .before .before .before .before .before .before .before in
-    let at-block-fault = at-if1 .before in
-    omega (arith, eight-bytes (field-judged at-block-fault) (at-if1 .if1 .left))
-
-number-at-requires-2 : tie.Need-number-at-requires-2
-number-at-requires-2 c κs =
-    let at-if1 = c .before .before .before .before .before .before .before .before .before .before .before .before .before .before .before .before .before .before .before .before .before .before .before .before .before .before .before .before .before .before .before .before .before .before .before .before .before in
-    let at-block-fault = at-if1 .before in
-    omega (arith, eight-bytes (field-judged at-block-fault) (at-if1 .if1 .left))
-
-number-at-requires-3 : tie.Need-number-at-requires-3
-number-at-requires-3 c κs =
-    let at-if1 = c .before .before .before .before .before .before .before .before .before .before .before .before .before .before .before .before .before .before .before .before .before .before .before .before .before .before .before .before .before .before .before .before .before .before .before .before .before .before in
-    let at-block-fault = at-if1 .before in
-    omega (arith, eight-bytes (field-judged at-block-fault) (at-if1 .if1 .left))
-
-activity-of-requires : tie.Need-activity-of-requires
-activity-of-requires c κs = search needs
+    eight-bytes (field-judged at-block-fault) (at-if1 .if1 .left)
 
 same-length : tie.Need-same-length
 same-length c =
@@ -181,59 +158,57 @@ returns-3 c =
 
 same-length-15 : tie.Need-same-length-15
 same-length-15 c =
-    let at-read-gates = c .before .before .before .before .before .before .before .before .before .before .before .before .before .before .before .before .before .before .before .before .before .before .before .before .before .before .before .before .before .before .before .before .before in
+    let at-read-gates = c .before .before .before .before .before .before .before .before .before .before .before .before .before .before .before .before .before .before .before .before .before .before .before .before .before .before .before .before .before .before in
     at-read-gates .read-gates .kept .1 .1 .1 .0
 
 same-length-16 : tie.Need-same-length-16
 same-length-16 c =
-    let at-read-gates = c .before .before .before .before .before .before .before .before .before .before .before .before .before .before .before .before .before .before .before .before .before .before .before .before .before .before .before .before .before .before .before .before .before in
+    let at-read-gates = c .before .before .before .before .before .before .before .before .before .before .before .before .before .before .before .before .before .before .before .before .before .before .before .before .before .before .before .before .before .before in
     at-read-gates .read-gates .kept .1 .1 .1 .1 .0
 
 same-length-17 : tie.Need-same-length-17
 same-length-17 c =
-    let at-read-gates = c .before .before .before .before .before .before .before .before .before .before .before .before .before .before .before .before .before .before .before .before .before .before .before .before .before .before .before .before .before .before .before .before .before in
+    let at-read-gates = c .before .before .before .before .before .before .before .before .before .before .before .before .before .before .before .before .before .before .before .before .before .before .before .before .before .before .before .before .before .before in
     at-read-gates .read-gates .kept .1 .1 .1 .1 .1 .0
 
 same-length-18 : tie.Need-same-length-18
 same-length-18 c =
-    let at-read-gates = c .before .before .before .before .before .before .before .before .before .before .before .before .before .before .before .before .before .before .before .before .before .before .before .before .before .before .before .before .before .before .before .before .before in
+    let at-read-gates = c .before .before .before .before .before .before .before .before .before .before .before .before .before .before .before .before .before .before .before .before .before .before .before .before .before .before .before .before .before .before in
     at-read-gates .read-gates .kept .1 .1 .1 .1 .1 .1 .0
 
 same-length-19 : tie.Need-same-length-19
 same-length-19 c =
-    let at-read-gates = c .before .before .before .before .before .before .before .before .before .before .before .before .before .before .before .before .before .before .before .before .before .before .before .before .before .before .before .before .before .before .before .before .before in
+    let at-read-gates = c .before .before .before .before .before .before .before .before .before .before .before .before .before .before .before .before .before .before .before .before .before .before .before .before .before .before .before .before .before .before in
     at-read-gates .read-gates .kept .1 .1 .1 .1 .1 .1 .1 .0
 
 same-length-20 : tie.Need-same-length-20
 same-length-20 c =
-    let at-read-wires = c .before .before .before .before .before .before .before .before .before .before .before .before .before .before .before in
+    let at-read-wires = c .before .before .before .before .before .before .before .before .before .before .before .before in
     at-read-wires .read-wires .kept .1 .1 .1 .0
 
 same-length-21 : tie.Need-same-length-21
 same-length-21 c =
-    let at-read-wires = c .before .before .before .before .before .before .before .before .before .before .before .before .before .before .before in
+    let at-read-wires = c .before .before .before .before .before .before .before .before .before .before .before .before in
     at-read-wires .read-wires .kept .1 .1 .1 .1 .0
 
 same-length-22 : tie.Need-same-length-22
 same-length-22 c =
-    let at-read-wires = c .before .before .before .before .before .before .before .before .before .before .before .before .before .before .before in
+    let at-read-wires = c .before .before .before .before .before .before .before .before .before .before .before .before in
     at-read-wires .read-wires .kept .1 .1 .1 .1 .1 .0
 
 same-length-23 : tie.Need-same-length-23
 same-length-23 c =
-    let at-read-wires = c .before .before .before .before .before .before .before .before .before .before .before .before .before .before .before in
+    let at-read-wires = c .before .before .before .before .before .before .before .before .before .before .before .before in
     at-read-wires .read-wires .kept .1 .1 .1 .1 .1 .1 .0
 
 returns-4 : tie.Need-returns-4
 returns-4 c =
-    let at-number-at = c .before .before .before in
-    let at-ended2 = at-number-at .before .before in
-    let at-read-wires = at-ended2 .before .before .before .before .before .before .before .before .before .before in
+    let at-read-wires = c .before .before .before .before .before .before .before .before .before .before .before .before in
     let at-passed2 = at-read-wires .before .before .before .before .before .before in
     let at-read-gates = at-passed2 .before .before .before .before .before .before .before .before .before .before .before .before in
     let at-if1 = at-read-gates .before .before .before .before .before .before .before in
     let at-block-fault = at-if1 .before in
-    block-found (field-judged at-block-fault) (at-if1 .if1 .left) _ _ (rw (at-passed2 .passed2 .given .1) at (at-read-gates .read-gates .ensures)) _ _ _ _ (rw (at-ended2 .ended2 .given .1) at (at-read-wires .read-wires .ensures)) (at-number-at .number-at .ensures) (c .before .before .number-at2 .ensures) (c .activity-of .ensures ∙ ap activity (c .before .number-at3 .ensures))
+    rw (c .block-said .ensures) (block-found (field-judged at-block-fault) (at-if1 .if1 .left) _ _ (rw (at-passed2 .passed2 .given .1) at (at-read-gates .read-gates .ensures)) _ (rw (c .before .before .ended2 .given .1) at (at-read-wires .read-wires .ensures)))
 
 pub read-block-spec : {M : Type 1} → statement M
-read-block-spec = tie.close (tie.spec field-body-requires due-field-requires block-fault-requires refusal-of-requires returns shared-slice-read-gates add-read-gates cast-read-gates read-gates-requires enum-known-passed enum-known-passed-2 read-wires-requires enum-known-ended enum-known-ended-2 cast-t48 number-at-requires number-at-requires-2 number-at-requires-3 activity-of-requires same-length same-length-2 same-length-3 same-length-4 same-length-5 returns-2 same-length-6 same-length-7 same-length-8 same-length-9 same-length-10 same-length-11 same-length-12 same-length-13 same-length-14 returns-3 same-length-15 same-length-16 same-length-17 same-length-18 same-length-19 same-length-20 same-length-21 same-length-22 same-length-23 returns-4)
+read-block-spec = tie.close (tie.spec field-body-requires due-field-requires block-fault-requires refusal-of-requires returns shared-slice-read-gates add-read-gates cast-read-gates read-gates-requires enum-known-passed enum-known-passed-2 read-wires-requires enum-known-ended enum-known-ended-2 block-said-requires same-length same-length-2 same-length-3 same-length-4 same-length-5 returns-2 same-length-6 same-length-7 same-length-8 same-length-9 same-length-10 same-length-11 same-length-12 same-length-13 same-length-14 returns-3 same-length-15 same-length-16 same-length-17 same-length-18 same-length-19 same-length-20 same-length-21 same-length-22 same-length-23 returns-4)
