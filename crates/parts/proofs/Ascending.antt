@@ -65,6 +65,15 @@ tested B h =
       left-all = every-holds (left B) (gate-count B) l;
     }
 
+-- every wire of such a block leads to a higher gate of the block
+pub ascending-rises : (B : Block) → ascending B ≡ true → (x y : ℕ) → Joined (B .wires) x y → (x < y) × (y < gate-count B)
+ascending-rises B h x y (w, m) =
+    let (i, l, e) = place-of m in
+    let (a, b) = and-iff (ltb (from-of B i) (to-of B i)) (ltb (to-of B i) (gate-count B)) .0 (tested B h .rises-all i l) in
+    let p : x ≡ from-of B i = ap (λ v. v .source) e in
+    let q : y ≡ to-of B i = ap (λ v. v .target) e in
+    (omega (arith, ltb-true (from-of B i) (to-of B i) a), omega (arith, ltb-true (to-of B i) (gate-count B) b))
+
 pub ascending-network : (B : Block) → ascending B ≡ true → Network B
 ascending-network B h =
     record {
@@ -82,12 +91,7 @@ ascending-network B h =
     t = tested B h
 
     higher : (x y : ℕ) → Joined (B .wires) x y → (x < y) × (y < gate-count B)
-    higher x y (w, m) =
-        let (i, l, e) = place-of m in
-        let (a, b) = and-iff (ltb (from-of B i) (to-of B i)) (ltb (to-of B i) (gate-count B)) .0 (t .rises-all i l) in
-        let p : x ≡ from-of B i = ap (λ v. v .source) e in
-        let q : y ≡ to-of B i = ap (λ v. v .target) e in
-        (omega (arith, ltb-true (from-of B i) (to-of B i) a), omega (arith, ltb-true (to-of B i) (gate-count B) b))
+    higher = ascending-rises B h
 
     joined : (i : ℕ) → i < length (B .wires) → Joined (B .wires) (from-of B i) (to-of B i)
     joined i l = (wire-at (B .wires) i .delay, stands-at (B .wires) i l)

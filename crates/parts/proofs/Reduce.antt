@@ -26,7 +26,7 @@ use Rattle.parts.proofs.Verdict.{one-in-below, answer}
 use Rattle.parts.proofs.Search.{and-iff, or-iff, Finds, find-finds, FindsSole, sole-finds}
 
 -- a live slot stands in the list
-live-inside : (L : List Slot) (i : ℕ) → Live (slots L i) → i < length L
+pub live-inside : (L : List Slot) (i : ℕ) → Live (slots L i) → i < length L
 live-inside L i l = go (decLt i (length L))
   where
     go : Dec (i < length L) → i < length L
@@ -213,13 +213,18 @@ unfolding live-count
 count-bound zero S = omega arith
 count-bound (suc n) S = omega (arith, bit-le (S n .live) true (λ e. refl), count-bound n S)
 
+-- What is left of a network is a state of the reduction, in which no gate but the two ends can go.
+pub left-reduced : {B : Block} → Network B → Reducing (Joined (B .wires)) (slots (remainder B)) × ((m : ℕ) → m < gate-count B → m ≢ first B → m ≢ last B → OneIn (slots (remainder B)) m → OneOut (slots (remainder B)) m → ⊥)
+unfolding remainder
+left-reduced {B} n = reduces (loop-free n) (length (B .wires)) (first B) (last B) (gate-count B) (length (B .wires)) (wire-slots (B .wires)) (start n) (initial-live (B .wires)) (count-bound (length (B .wires)) (initial (B .wires)))
+
 -- The computing reduction's verdict is the definition's.
 pub reducible-verdict : {B : Block} → Network B → (reducible B ≡ true) ↔ SeriesParallel B
-unfolding reducible remainder
+unfolding reducible
 reducible-verdict {B} n = (λ h. both .0 (there (or-iff _ _ .0 h)), λ p. or-iff _ _ .1 (back (both .1 p)))
   where
     end : Reducing (Joined (B .wires)) (slots (remainder B)) × ((m : ℕ) → m < gate-count B → m ≢ first B → m ≢ last B → OneIn (slots (remainder B)) m → OneOut (slots (remainder B)) m → ⊥)
-    end = reduces (loop-free n) (length (B .wires)) (first B) (last B) (gate-count B) (length (B .wires)) (wire-slots (B .wires)) (start n) (initial-live (B .wires)) (count-bound (length (B .wires)) (initial (B .wires)))
+    end = left-reduced n
 
     finished : Finished (slots (remainder B)) (first B) (last B)
     finished m d e i o = end .1 m (one-in-below n (end .0) i) d e i o
