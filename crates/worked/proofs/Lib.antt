@@ -1,0 +1,5 @@
+pub mod Tree
+pub mod Lines
+pub mod Sound
+pub mod Computes
+pub mod Worked

@@ -1,0 +1,130 @@
+-- The outcome computed for a call is one that its table allows (`sound`), for a file that cannot be read or whose block is ascending.
+-- Assumes nothing.
+use mathlib.Core.Path.{_≡_, refl, sym, _∙_, subst}
+use mathlib.Core.Bool.{Bool, true, false, false≢true}
+use mathlib.Core.Option.{Option, none, some}
+use mathlib.Core.List.{List, [], _∷_}
+use Prim.Native.Nat.{ℕ, _+_, _≤_}
+use native.Mathlib.Omega.{arith}
+use borrow.Author.Tests.{ltb-true, ltb-false, lt-ltb}
+use lib.Dec.{ltb}
+use lib.IntN.{ℤ, pos}
+use lib.Signed.{_<ℤ_}
+use lib.ListN.{length, take}
+use Rattle.lists.specs.Search.{Lowest, Says}
+use Rattle.model.specs.Limits.{max-pairs}
+use Rattle.model.specs.Block.{Block, gate, gate-count}
+use Rattle.model.specs.Gain.{saving}
+use Rattle.model.specs.InTime.{slowed}
+use Rattle.model.specs.Best.{Best}
+use Rattle.model.specs.Curve.{IsCurve}
+use Rattle.model.specs.Part.{SeriesParallel}
+use Rattle.model.specs.Slack.{start, spare}
+use Rattle.model.specs.File.{Reading, found, refused, read-block}
+use Rattle.model.specs.Refusal.{unread}
+use Rattle.model.specs.Answer.{Outcome, Line, fits, passes, At, Judged, ill-formed, well-formed, Gives, Exceeds, PathNotInTime, Slices, GivesCurve, curve, GivesBest, best}
+use Rattle.model.proofs.Limited.{read-limits}
+use Rattle.model.proofs.Slack.{start-is, late-is}
+use Rattle.optimum.specs.Tree.{Tree}
+use Rattle.optimum.specs.Gates.{Descending}
+use Rattle.optimum.specs.BlockTree.{block-tree, start-of, increases, pairs-of}
+use Rattle.optimum.proofs.BlockTree.{block-is-tree}
+use Rattle.optimum.proofs.Within.{start-is-start}
+use Rattle.optimum.proofs.Optimum as Optimum
+use Rattle.parts.specs.Network.{Network}
+use Rattle.parts.specs.Ascending.{ascending}
+use Rattle.parts.proofs.Ascending.{ascending-network}
+use Rattle.worked.specs.Call.{Call, find-slacks, judge-list, find-curve, find-best, file-of, Allows}
+use Rattle.worked.specs.Computed.{tree, lowest, slacks-of, time-under, judged, exceeds, judge-of, curve-by, curve-of, increases-by, best-by, best-of, by-reading, computed, rises}
+use Rattle.worked.proofs.Tree.{Found, tree-found}
+use Rattle.worked.proofs.Lines.{line-by, less-says, FindsLowest, lowest-finds, descending, sound-network, along, lasts}
+
+-- lines 1 to 9
+by-lines : {S : Type 0} (file : List ℕ) (lent : S) (further : Block → Outcome S → Type 0) (f : Block → S → Outcome S)
+    → ((B : Block) (o : ℕ) → read-block file ≡ found B o → ascending B ≡ true → further B (f B lent))
+    → rises (read-block file) ≡ true
+    → Judged file lent further (by-reading (read-block file) lent f)
+by-lines {S} file lent further f each = go (read-block file) refl
+  where
+    go : (r : Reading Block) → read-block file ≡ r → rises r ≡ true → Judged file lent further (by-reading r lent f)
+    go (found B o) e h =
+        well-formed B (record { end = o; reads = e; network = sound-network (ascending-network B h) }) (each B o e h)
+    go (refused k p) e h = ill-formed k p (unread e) refl
+
+module _ (file : List ℕ) (B : Block) (end : ℕ) (reads : read-block file ≡ found B end) (h : ascending B ≡ true) where
+  network : Network B
+  network = ascending-network B h
+
+  falls : (g : ℕ) → Descending (gate B g .steps)
+  falls g = descending (gate B g .steps) (read-limits file reads .gate-limits g .drops-fall)
+
+  -- some path is not in time
+  late-path : (x : List ℕ) (b : Bool) → ltb (B .deadline) (B .arrival + time-under B x) ≡ b → Says (PathNotInTime B x) b
+  late-path x true e = (time-under B x, lasts B h (slowed B x) .attained, ltb-true _ _ e)
+  late-path x false e =
+      λ late. let (t, p, l) = late in omega (arith, lasts B h (slowed B x) .greatest t p, ltb-false (B .deadline) (B .arrival + time-under B x) e)
+
+  judge-line : (x lent : List ℕ) (r : Option ℕ) → FindsLowest (exceeds B x) (gate-count B) r
+      → Line lent 13 (Lowest (Exceeds B x)) (Line lent 14 (At 0 (PathNotInTime B x)) (Gives (saving B x ∷ []) lent)) (judged B x lent r)
+  judge-line x lent (some g) f =
+      fits g
+      (record {
+        holds = (f .0, ltb-true _ _ (f .1));
+        none-below = λ q l e. false≢true (sym (f .2 q l) ∙ lt-ltb _ _ (e .1));
+      })
+      refl
+  judge-line x lent none f =
+      passes (λ g e. let (l, k) = e .holds in false≢true (sym (f g l) ∙ lt-ltb _ _ k)) (line-by _ (ltb (B .deadline) (B .arrival + time-under B x)) (late-path x _ refl) (λ e. refl))
+
+  -- the block is late
+  late : SeriesParallel B → (b : Bool) → ltb (B .deadline) (B .arrival + start B) ≡ b → Says (SeriesParallel B × (spare B <ℤ pos 0)) b
+  late s true e = (s, late-is B (sound-network network) (along B h) (network .some-gate) .1 (ltb-true _ _ e))
+  late s false e =
+      λ l. omega (arith, late-is B (sound-network network) (along B h) (network .some-gate) .0 (l .1), ltb-false (B .deadline) (B .arrival + start B) e)
+
+  -- the tree's start is the block's
+  start-most : (s : SeriesParallel B) → ltb (B .deadline) (B .arrival + start B) ≡ false → B .arrival + start-of B (block-tree B s) ≤ B .deadline
+  start-most s e =
+      let t = block-tree B s in
+      let path = start-is-start B t (block-is-tree B s (network .below)) .attained in
+      omega (arith, start-is B (sound-network network) (along B h) (network .some-gate) .greatest (start-of B t) path, ltb-false (B .deadline) (B .arrival + start B) e)
+
+  best-list : (t : Tree) (s : SeriesParallel B) → block-tree B s ≡ t → ltb (B .deadline) (B .arrival + start B) ≡ false → Best B (increases-by B t)
+  best-list t s e l = subst (λ u. Best B (increases-by B u)) e (Optimum.best B s (network .below) falls (start-most s l))
+
+  best-line : (lent : List ℕ) (r : Option Tree) → Found B r
+      → Line lent 11 (At 0 (¬ (SeriesParallel B))) (Line lent 12 (At 0 (SeriesParallel B × (spare B <ℤ pos 0))) (GivesBest B lent)) (best-by B lent r)
+  best-line lent none f = fits 0 (refl, f) refl
+  best-line lent (some t) (s, e) =
+      passes (λ p n. n .1 s) (line-by _ _ (late s _ refl) (λ l. best (increases-by B t) s (best-list t s e l) refl))
+
+  curve-line : (lent : Slices) (r : Option Tree) → Found B r
+      → Line lent 11 (At 0 (¬ (SeriesParallel B))) (GivesCurve B lent) (curve-by B lent r)
+  curve-line lent none f = fits 0 (refl, f) refl
+  curve-line lent (some t) (s, e) =
+      passes (λ p n. n .1 s)
+      (curve (start-of B t) (saving B (increases B t 0)) (pairs-of B t) s
+      (subst (λ u. IsCurve B (start-of B u) (saving B (increases B u 0)) (pairs-of B u)) e (Optimum.curve B s (network .below) falls))
+      refl)
+
+pub sound : (c : Call) → rises (read-block (file-of c)) ≡ true → Allows c (computed c)
+sound (find-slacks file lent) =
+    by-lines file lent _ slacks-of (λ B o e h. line-by _ (ltb (length lent) (gate-count B)) (less-says (length lent) (gate-count B)) (λ l. refl))
+sound (judge-list file lent) =
+    by-lines file lent _ judge-of
+    (λ B o e h.
+    let x = take (gate-count B) lent in
+    line-by _ (ltb (length lent) (gate-count B)) (less-says (length lent) (gate-count B))
+    (λ l. judge-line file B o e h x lent (lowest (exceeds B x) (gate-count B)) (lowest-finds (exceeds B x) (gate-count B))))
+sound (find-curve file lent) =
+    by-lines file lent _ curve-of
+    (λ B o e h.
+    line-by _ (ltb (length (lent .for-widths)) max-pairs) (less-says (length (lent .for-widths)) max-pairs)
+    (λ l.
+    line-by _ (ltb (length (lent .for-gains)) max-pairs) (less-says (length (lent .for-gains)) max-pairs)
+    (λ k. curve-line file B o e h lent (tree B) (tree-found B (ascending-network B h)))))
+sound (find-best file lent) =
+    by-lines file lent _ best-of
+    (λ B o e h.
+    line-by _ (ltb (length lent) (gate-count B)) (less-says (length lent) (gate-count B))
+    (λ l. best-line file B o e h lent (tree B) (tree-found B (ascending-network B h))))

@@ -1,0 +1,3 @@
+pub mod Call
+pub mod Computed
+pub mod Table

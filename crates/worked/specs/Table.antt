@@ -1,0 +1,126 @@
+-- The cases of document 01, "Blocks tried by hand", that are marked P, as rows of one table in the document's order.
+-- Every p is 128, arrival is 0. Where the document leaves them free, chosen here: delays of 1 and a deadline of 9 for the wires of the bridge, of the triangle and for 001's chain; deadline 9 for 001's parallel gates, in whose curve it plays no part; lent slices of one element more than needed, filled with 9, so that a row shows the elements beyond n unchanged.
+use mathlib.Core.List.{List, [], _∷_, _++_}
+use Prim.Native.Nat.{ℕ, _*_}
+use lib.IntN.{pos}
+use lib.ListN.{replicate}
+use Rattle.model.specs.Block.{Step, Wire}
+use Rattle.model.specs.Netlist.{DrawnGate}
+use Rattle.model.specs.File.{encode}
+use Rattle.model.specs.Answer.{Slices}
+use Rattle.worked.specs.Call.{find-slacks, judge-list, find-curve, find-best, Row}
+use Rattle.worked.specs.Computed.{refuses, gives}
+
+-- a wire's activity, "U = 32,768"
+abbrev pub U : ℕ
+U = 32768
+
+abbrev step : ℕ → ℕ → Step
+step w d = record { width = w; drop = d }
+
+abbrev gate : ℕ → List Step → DrawnGate
+gate d ss = record { delay = d; probability = 128; steps = ss }
+
+abbrev to : ℕ → ℕ → Wire
+to a b = record { source = a; target = b; delay = 0 }
+
+-- the file of a block with these gates and wires
+abbrev file : ℕ → List DrawnGate → List Wire → List ℕ
+file deadline gs ws =
+    encode (record { edition = 1; arrival = 0; deadline = deadline; probability = 128; gates = gs; wires = ws })
+
+-- the four wires of a diamond
+abbrev diamond-wires : List Wire
+diamond-wires = to 0 1 ∷ to 0 2 ∷ to 1 3 ∷ to 2 3 ∷ []
+
+-- "D: delays 2, 3, 1, 2; steps none; (2,5),(3,2); (4,4); (5,6); wires 0-1, 0-2, 1-3, 2-3"
+abbrev diamond : ℕ → List ℕ
+diamond deadline =
+    file deadline (gate 2 [] ∷ gate 3 (step 2 5 ∷ step 3 2 ∷ []) ∷ gate 1 (step 4 4 ∷ []) ∷ gate 2 (step 5 6 ∷ []) ∷ []) diamond-wires
+
+-- "one gate, delay 5, step (2,3), deadline 8"
+abbrev one-gate : List ℕ
+one-gate = file 8 (gate 5 (step 2 3 ∷ []) ∷ []) []
+
+-- "chain of two, delays 1, steps (4,3) each"
+abbrev chain-of-two : ℕ → List ℕ
+chain-of-two deadline = file deadline (gate 1 (step 4 3 ∷ []) ∷ gate 1 (step 4 3 ∷ []) ∷ []) (to 0 1 ∷ [])
+
+abbrev plain : DrawnGate
+plain = gate 1 []
+
+-- "wires 0-1, 0-2, 1-2, 1-3, 2-3"
+abbrev bridge : List ℕ
+bridge = file 9 (plain ∷ plain ∷ plain ∷ plain ∷ []) (to 0 1 ∷ to 0 2 ∷ to 1 2 ∷ to 1 3 ∷ to 2 3 ∷ [])
+
+-- "wires 0-1, 1-2, 0-2"
+abbrev triangle : List ℕ
+triangle = file 9 (plain ∷ plain ∷ plain ∷ []) (to 0 1 ∷ to 1 2 ∷ to 0 2 ∷ [])
+
+-- the step lists of 001's examples
+abbrev first-steps : List Step
+first-steps = step 3 28 ∷ step 5 24 ∷ step 3 21 ∷ []
+
+abbrev second-steps : List Step
+second-steps = step 2 24 ∷ step 4 23 ∷ []
+
+-- "001's chain, steps (3,28),(5,24),(3,21); (2,24),(4,23); (9,26)"
+abbrev chain-of-three : List ℕ
+chain-of-three = file 9 (gate 1 first-steps ∷ gate 1 second-steps ∷ gate 1 (step 9 26 ∷ []) ∷ []) (to 0 1 ∷ to 1 2 ∷ [])
+
+-- "001's parallel gates, delays 3 and 2, the first two lists above, between stepless gates of delay 0"
+abbrev parallel-gates : List ℕ
+parallel-gates = file 9 (gate 0 [] ∷ gate 3 first-steps ∷ gate 2 second-steps ∷ gate 0 [] ∷ []) diamond-wires
+
+-- a slice of so many nines
+abbrev nines : ℕ → List ℕ
+nines n = replicate n 9
+
+-- two slices of so many nines
+abbrev nine-slices : ℕ → Slices
+nine-slices n = record { for-widths = nines n; for-gains = nines n }
+
+-- the two slices of a curve, five pairs in front
+abbrev pairs : List ℕ → List ℕ → Slices
+pairs ws gs = record { for-widths = ws ++ nines 508; for-gains = gs ++ nines 508 }
+
+unfoldable pub table : List Row
+table =
+    -- "empty file: 1, 0", whatever the call
+    record { call = find-slacks [] (pos 9 ∷ []); expected = refuses 1 0 (pos 9 ∷ []) }
+    ∷ record { call = judge-list [] (nines 4); expected = refuses 1 0 (nines 4) }
+    ∷ record { call = find-curve [] (nine-slices 4); expected = refuses 1 0 (nine-slices 4) }
+    ∷ record { call = find-best [] (nines 4); expected = refuses 1 0 (nines 4) }
+    -- "D with deadline 10: increases 0 0 2 3, saving 44U"
+    ∷ record { call = find-best (diamond 10) (nines 5); expected = gives (44 * U ∷ 4 ∷ []) (0 ∷ 0 ∷ 2 ∷ 3 ∷ 9 ∷ []) }
+    -- "Deadline 14: 0 2 4 5, saving 86U = 2,818,048"
+    ∷ record { call = find-best (diamond 14) (nines 5); expected = gives (2818048 ∷ 4 ∷ []) (0 ∷ 2 ∷ 4 ∷ 5 ∷ 9 ∷ []) }
+    -- "D with 7: 0 0 2 0, saving 8U. With 6: 12"
+    ∷ record { call = find-best (diamond 7) (nines 5); expected = gives (8 * U ∷ 4 ∷ []) (0 ∷ 0 ∷ 2 ∷ 0 ∷ 9 ∷ []) }
+    ∷ record { call = find-best (diamond 6) (nines 5); expected = refuses 12 0 (nines 5) }
+    -- "judging on D with 10: 0 0 0 3 saves 36U; 0 0 2 4 gets 14; 0 6 0 0 gets 13 at gate 1"
+    ∷ record { call = judge-list (diamond 10) (0 ∷ 0 ∷ 0 ∷ 3 ∷ 9 ∷ []); expected = gives (36 * U ∷ []) (0 ∷ 0 ∷ 0 ∷ 3 ∷ 9 ∷ []) }
+    ∷ record { call = judge-list (diamond 10) (0 ∷ 0 ∷ 2 ∷ 4 ∷ 9 ∷ []); expected = refuses 14 0 (0 ∷ 0 ∷ 2 ∷ 4 ∷ 9 ∷ []) }
+    ∷ record { call = judge-list (diamond 10) (0 ∷ 6 ∷ 0 ∷ 0 ∷ 9 ∷ []); expected = refuses 13 1 (0 ∷ 6 ∷ 0 ∷ 0 ∷ 9 ∷ []) }
+    -- "one gate, delay 5, step (2,3), deadline 8: increase 2, saving 6U"
+    ∷ record { call = find-best one-gate (nines 2); expected = gives (6 * U ∷ 1 ∷ []) (2 ∷ 9 ∷ []) }
+    -- "chain of two, delays 1, steps (4,3) each: deadline 5 gives 0 3; 8 gives 2 4"
+    ∷ record { call = find-best (chain-of-two 5) (nines 3); expected = gives (9 * U ∷ 2 ∷ []) (0 ∷ 3 ∷ 9 ∷ []) }
+    ∷ record { call = find-best (chain-of-two 8) (nines 3); expected = gives (18 * U ∷ 2 ∷ []) (2 ∷ 4 ∷ 9 ∷ []) }
+    -- "wires 0-1, 0-2, 1-2, 1-3, 2-3: 11", whether the curve or the best increases are asked for
+    ∷ record { call = find-best bridge (nines 5); expected = refuses 11 0 (nines 5) }
+    ∷ record { call = find-curve bridge (nine-slices 513); expected = refuses 11 0 (nine-slices 513) }
+    -- "Wires 0-1, 1-2, 0-2: series-parallel", so that both are given
+    ∷ record { call = find-best triangle (nines 4); expected = gives (0 ∷ 3 ∷ []) (0 ∷ 0 ∷ 0 ∷ 9 ∷ []) }
+    ∷ record { call = find-curve triangle (nine-slices 513); expected = gives (3 ∷ 0 ∷ 0 ∷ []) (nine-slices 513) }
+    -- "001's chain: pairs (3,28),(9,26),(7,24),(4,23),(3,21), gains in U"
+    ∷ record {
+      call = find-curve chain-of-three (nine-slices 513);
+      expected = gives (3 ∷ 0 ∷ 5 ∷ []) (pairs (3 ∷ 9 ∷ 7 ∷ 4 ∷ 3 ∷ []) (28 * U ∷ 26 * U ∷ 24 * U ∷ 23 * U ∷ 21 * U ∷ []));
+    }
+    -- "001's parallel gates: start 3, 24U at start, pairs (1,52),(2,51),(2,47),(3,24),(3,21)"
+    ∷ record {
+      call = find-curve parallel-gates (nine-slices 513);
+      expected = gives (3 ∷ 24 * U ∷ 5 ∷ []) (pairs (1 ∷ 2 ∷ 2 ∷ 3 ∷ 3 ∷ []) (52 * U ∷ 51 * U ∷ 47 * U ∷ 24 * U ∷ 21 * U ∷ []));
+    }
+    ∷ []
