@@ -1,4 +1,5 @@
--- Every row of the table computes: its file cannot be read or its wires rise, and its call's outcome is the one expected.
+-- Every row of the table computes: its file cannot be read or its wires rise, and its call's outcome is the one expected. All by computation.
+-- Assumes nothing.
 use mathlib.Core.Path.{_≡_, refl}
 use mathlib.Core.Bool.{true}
 use mathlib.Core.List.{flatMap}

@@ -1,5 +1,6 @@
 -- The cases of document 01, "Blocks tried by hand", that are marked P, as rows of one table in the document's order.
--- Every p is 128, arrival is 0. Where the document leaves them free, chosen here: delays of 1 and a deadline of 9 for the wires of the bridge, of the triangle and for 001's chain; deadline 9 for 001's parallel gates, in whose curve it plays no part; lent slices of one element more than needed, filled with 9, so that a row shows the elements beyond n unchanged.
+-- Every p is 128, arrival is 0. Where the document leaves them free, chosen here: delay 1 for the gates of the bridge, the triangle and 001's chain, no steps for those of the bridge and the triangle; deadline 9 for these and for 001's parallel gates (in a curve it plays no part).
+-- Lent slices are filled with 9 and, but for the empty file, one element longer than needed: a row shows that what lies beyond is unchanged.
 use mathlib.Core.List.{List, [], _∷_, _++_}
 use Prim.Native.Nat.{ℕ, _*_}
 use lib.IntN.{pos}
@@ -80,7 +81,7 @@ nines n = replicate n 9
 abbrev nine-slices : ℕ → Slices
 nine-slices n = record { for-widths = nines n; for-gains = nines n }
 
--- the two slices of a curve, five pairs in front
+-- the two slices of 513 elements with five pairs in front
 abbrev pairs : List ℕ → List ℕ → Slices
 pairs ws gs = record { for-widths = ws ++ nines 508; for-gains = gs ++ nines 508 }
 
