@@ -6,3 +6,4 @@ pub mod Fresh
 pub mod Reversal
 pub mod Subtraction
 pub mod Slacks
+pub mod Starting

@@ -1,3 +1,4 @@
 pub mod Chain
 pub mod Times
 pub mod Slacks
+pub mod Start

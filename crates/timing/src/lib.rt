@@ -3,4 +3,5 @@ pub mod chain;
 pub mod latest;
 pub mod number;
 pub mod slack;
+pub mod start;
 pub mod times;

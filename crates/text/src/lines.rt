@@ -1,0 +1,99 @@
+// The lines of the printout: a refusal, the head of a block, and its gates.
+ghost use mathlib.Core.List.{List};
+ghost use Prim.Native.Nat.{ℕ, _+_, _*_, _≤_};
+ghost use lib.ListN.{length};
+ghost use Rattle.model.specs.Limits.{max-gates};
+ghost use Rattle.model.specs.Block.{Block};
+ghost use Rattle.model.specs.Printout.{refusal-line, head-lines, gate-line, gate-lines, block-lines};
+ghost use Rattle.text.specs.Written.{Written, refusal-room, head-room, gate-room, block-room};
+ghost use Rattle.text.specs.Numbers.{HeadNumbers, GateNumbers, GatesNumbers, Listed};
+use crate::number::natural;
+use crate::number::wide;
+use crate::pieces::write_named;
+use crate::pieces::write_number;
+
+// Writes the line of a refusal to the front of the slice and answers its length.
+pub fn write_refusal(number: u64, place: u64, out: &mut [u8]) -> usize
+    requires { ⌜ refusal-room ≤ length (now out) ⌝ }
+    ensures { λ r. ⌜ Written (refusal-line number place) 0 (now (out .entry)) (now (out .exit)) r ⌝ }
+{
+    let next = write_named(b"refused ", number, b' ', out, 0);
+    write_number(place, b'\n', out, next)
+}
+
+// Writes the three head lines of a block's printout to the front of the slice and answers their length.
+pub fn write_head(
+    gates: u64,
+    wires: u64,
+    start: u64,
+    spare: u64,
+    saving: u64,
+    out: &mut [u8],
+) -> usize
+    requires { ⌜ head-room ≤ length (now out) ⌝ }
+    ensures { λ r. ⌜ (r ≤ head-room) × ((B : Block) (x : List ℕ) → HeadNumbers B x gates wires start spare saving → Written (head-lines B x) 0 (now (out .entry)) (now (out .exit)) r) ⌝ }
+{
+    let mut next = write_named(b"gates ", gates, b' ', out, 0);
+    next = write_named(b"wires ", wires, b'\n', out, next);
+    next = write_named(b"start ", start, b' ', out, next);
+    next = write_named(b"spare ", spare, b'\n', out, next);
+    write_named(b"saving ", saving, b'\n', out, next)
+}
+
+// Writes the line of gate g at place `at` and answers the place behind it.
+pub fn write_gate(g: u64, delay: u64, increase: u64, slack: u64, out: &mut [u8], at: usize) -> usize
+    requires { ⌜ at + gate-room ≤ length (now out) ⌝ }
+    ensures { λ r. ⌜ (r ≤ at + gate-room) × ((B : Block) (x : List ℕ) → GateNumbers B x g delay increase slack → Written (gate-line B x g) at (now (out .entry)) (now (out .exit)) r) ⌝ }
+{
+    let mut next = write_number(g, b' ', out, at);
+    next = write_number(delay, b' ', out, next);
+    next = write_number(increase, b' ', out, next);
+    write_number(slack, b'\n', out, next)
+}
+
+// Writes the lines of the first n gates at place `at` and answers the place behind them.
+pub fn write_gates(
+    n: usize,
+    delays: &[u32],
+    increases: &[u32],
+    slacks: &[i32],
+    out: &mut [u8],
+    at: usize,
+) -> usize
+    requires { ⌜ (at + gate-room * n ≤ length (now out)) × Listed n (now delays) (now increases) (now slacks) ⌝ }
+    ensures { λ r. ⌜ (r ≤ at + gate-room * n) × ((B : Block) (x : List ℕ) → GatesNumbers B x n (now (delays .entry)) (now (increases .entry)) (now (slacks .entry)) → Written (gate-lines B x n) at (now (out .entry)) (now (out .exit)) r) ⌝ }
+{
+    let mut next = at;
+    let mut g = 0;
+    while g < n {
+        next = write_gate(
+            g as u64,
+            wide(delays[g]),
+            wide(increases[g]),
+            natural(slacks[g]),
+            out,
+            next,
+        );
+        g += 1;
+    }
+    next
+}
+
+// Writes the printout of a block of n gates to the front of the slice and answers its length.
+pub fn write_block(
+    n: usize,
+    wires: u64,
+    start: u64,
+    spare: u64,
+    saving: u64,
+    delays: &[u32],
+    increases: &[u32],
+    slacks: &[i32],
+    out: &mut [u8],
+) -> usize
+    requires { ⌜ (n ≤ max-gates) × (block-room ≤ length (now out)) × Listed n (now delays) (now increases) (now slacks) ⌝ }
+    ensures { λ r. ⌜ (r ≤ block-room) × ((B : Block) (x : List ℕ) → HeadNumbers B x n wires start spare saving → GatesNumbers B x n (now (delays .entry)) (now (increases .entry)) (now (slacks .entry)) → Written (block-lines B x) 0 (now (out .entry)) (now (out .exit)) r) ⌝ }
+{
+    let next = write_head(n as u64, wires, start, spare, saving, out);
+    write_gates(n, delays, increases, slacks, out, next)
+}

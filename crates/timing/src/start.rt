@@ -1,0 +1,45 @@
+// Start, the longest path with no increase, and spare, what it leaves of the deadline.
+use crate::number::left_of;
+use crate::times::times_from;
+ghost use mathlib.Core.Path.{_≡_};
+ghost use Prim.Native.Nat.{_+_, _≤_};
+ghost use lib.IntN.{pos, _-ℤ_};
+ghost use Rattle.model.specs.Limits.{max-time};
+ghost use Rattle.timing.specs.Times.{time-bound};
+ghost use Rattle.timing.specs.Start.{Startable, StartIs};
+
+// How long a longest path from the first gate to the last lasts as drawn.
+pub fn start_time(
+    n: usize,
+    m: usize,
+    order: &[u32],
+    sources: &[u32],
+    targets: &[u32],
+    wire_delays: &[u32],
+    gate_delays: &[u32],
+) -> u32
+    requires { ⌜ Startable n m (now order) (now sources) (now targets) (now «wire_delays») (now «gate_delays») ⌝ }
+    ensures { λ r. ⌜ StartIs n m (now (sources .entry)) (now (targets .entry)) (now («wire_delays» .entry)) (now («gate_delays» .entry)) r ⌝ }
+{
+    let mut times = [0u32; 64];
+    times_from(
+        n,
+        m,
+        order,
+        sources,
+        targets,
+        wire_delays,
+        gate_delays,
+        0,
+        &mut times,
+    );
+    times[n - 1]
+}
+
+// Deadline less arrival less start, negative when late.
+pub fn spare_time(arrival: u32, deadline: u32, start: u32) -> i32
+    requires { ⌜ (arrival ≤ max-time) × (deadline ≤ max-time) × (start ≤ time-bound) ⌝ }
+    ensures { λ r. ⌜ r ≡ pos deadline -ℤ pos (arrival + start) ⌝ }
+{
+    left_of(deadline, arrival + start)
+}
