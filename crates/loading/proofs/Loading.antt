@@ -1,23 +1,19 @@
 -- What reading a file and judging its network come to: a well-formed block in the arrays with an order of its gates, or the first refusal of 1 to 9.
 -- Assumes nothing.
-use mathlib.Core.Path.{_≡_, refl, sym, _∙_, subst, ap}
+use mathlib.Core.Path.{_≡_, refl, sym, subst}
 use mathlib.Core.List.{List}
-use Prim.Native.Nat.{ℕ, _-_, _≤_, _<_}
+use Prim.Native.Nat.{ℕ}
 use native.Mathlib.Omega.{arith}
-use lib.ListN.{length, getD}
-use Rattle.lists.proofs.Over.{length-build, getD-build}
+use lib.ListN.{length}
 use Rattle.model.specs.declared.Refusal.{Refusal}
-use Rattle.model.specs.Block.{Wire, Block, gate-count, first, last}
-use Rattle.model.specs.Arrays.{wire-at, gate-at}
+use Rattle.model.specs.Block.{Block}
 use Rattle.model.specs.File.{found, read-block}
 use Rattle.model.specs.Refusal.{IllFormed, unread, loop, ends}
-use Rattle.model.proofs.Limited.{BlockLimits, read-limits}
 use Rattle.blockfile.specs.declared.read.BlockRead.the-variants as Whole
 use Rattle.blockfile.specs.Held.{GateArrays, WireArrays, WireRoom}
 use Rattle.blockfile.specs.Reads.{block-passing}
 use Rattle.network.specs.declared.Network.{Network}
 use Rattle.network.specs.declared.Network.the-variants.{Sound, Loop, Ends}
-use Rattle.network.specs.Wires.{Lent, Wired, InArrays, EndsAt}
 use Rattle.network.specs.Order.{Order}
 use Rattle.network.specs.Judged.{Judged}
 use Rattle.network.proofs.Wires.{wired-joined}

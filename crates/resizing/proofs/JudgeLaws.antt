@@ -3,7 +3,7 @@
 use mathlib.Core.Path.{_≡_, refl, sym, _∙_, ap, subst}
 use mathlib.Core.Logic.{⊎-elim}
 use mathlib.Core.List.{List, [], _∷_}
-use Prim.Native.Nat.{ℕ, zero, suc, _+_, _*_, _-_, _≤_, _<_}
+use Prim.Native.Nat.{ℕ, suc, _+_, _*_, _-_, _≤_, _<_}
 use native.Mathlib.Nat.{le-refl}
 use native.Mathlib.Omega.{arith}
 use lib.ListN.{length, getD, take}
@@ -11,21 +11,19 @@ use lib.Seq.{getD-take}
 use Rattle.lists.specs.Sum.{total}
 use Rattle.lists.specs.Search.{Lowest}
 use Rattle.lists.proofs.Compare.{le-or-lt}
-use Rattle.model.specs.Limits.{max-gates, max-wires, max-steps, max-width, max-delay, max-time}
-use Rattle.model.specs.Block.{Step, Wire, Block, gate, gate-count, first, last, widths, Stands}
+use Rattle.model.specs.Limits.{max-gates, max-width, max-time}
+use Rattle.model.specs.Block.{Step, Block, gate, gate-count, first, last, widths}
 use Rattle.model.specs.Path.{Path, Longest}
 use Rattle.model.specs.Gain.{input-activity, saving}
 use Rattle.model.specs.InTime.{no-increase, slowed}
 use Rattle.model.specs.Slack.{source-by}
 use Rattle.model.specs.Answer.{refusal, accepted, Exceeds, PathNotInTime, AnswersJudge, well-formed, fits, passes}
-use Rattle.model.specs.Arrays.{wires-in}
 use Rattle.model.proofs.Limited.{StepLimits, BlockLimits}
 use Rattle.model.proofs.SameDelays.{source-same}
 use Rattle.model.proofs.Slack.{entered}
 use Rattle.model.proofs.Source.{Along, Entered, source-attained, source-greatest}
 use Rattle.blockfile.specs.Held.{GateArrays, WireArrays}
 use Rattle.network.specs.Wires.{Lent}
-use Rattle.timing.specs.Times.{most-delay, time-bound}
 use Rattle.timing.proofs.Found.{along}
 use Rattle.gains.specs.Steps.{WidthsLent, Held, LowestExceeding}
 use Rattle.gains.specs.Activities.{Summable, InputActivities}

@@ -1,20 +1,19 @@
 -- The slacks that the arrays give are those of the block that the file holds.
 -- Assumes nothing.
-use mathlib.Core.Path.{_≡_, refl, sym, _∙_, ap, subst}
+use mathlib.Core.Path.{_≡_, refl, sym}
 use mathlib.Core.List.{List, [], _∷_}
-use Prim.Native.Nat.{ℕ, zero, suc, _+_, _≤_, _<_}
+use Prim.Native.Nat.{ℕ, _≤_, _<_}
 use native.Mathlib.Omega.{arith}
-use lib.IntN.{ℤ, pos, _-ℤ_}
+use lib.IntN.{ℤ, pos}
 use lib.ListN.{length, getD}
 use Rattle.lists.specs.Over.{build, over}
-use Rattle.lists.proofs.Over.{build-same, length-build}
+use Rattle.lists.proofs.Over.{build-same}
 use Rattle.model.specs.Limits.{max-gates}
-use Rattle.model.specs.Block.{Wire, Block, gate-count, Stands}
+use Rattle.model.specs.Block.{Block, gate-count}
 use Rattle.model.specs.InTime.{drawn}
-use Rattle.model.specs.Slack.{latest-in, source-by, source-delay, least-out, required-by, required-time, slack}
-use Rattle.model.specs.File.{found, read-block}
+use Rattle.model.specs.Slack.{source-delay, required-time, slack}
 use Rattle.model.specs.Refusal.{WellFormed}
-use Rattle.model.specs.Answer.{Answer, refusal, accepted, Outcome, Judged, well-formed, fits, passes, AnswersSlacks}
+use Rattle.model.specs.Answer.{refusal, accepted, well-formed, fits, passes, AnswersSlacks}
 use Rattle.model.specs.Arrays.{wires-in}
 use Rattle.model.proofs.SameDelays.{source-same, required-same}
 use Rattle.blockfile.specs.Held.{GateArrays, WireArrays, WireRoom}

@@ -1,20 +1,19 @@
 -- Increases added to delays, and the longest path that they make.
 -- Assumes nothing.
-use mathlib.Core.Path.{_≡_, sym, _∙_, ap}
+use mathlib.Core.Path.{_≡_, _∙_}
 use mathlib.Core.Logic.{⊎-elim}
 use mathlib.Core.List.{List}
-use Prim.Native.Nat.{ℕ, suc, _+_, _-_, _≤_, _<_}
+use Prim.Native.Nat.{ℕ, suc, _+_, _-_, _<_}
 use native.Mathlib.Nat.{eq-or-lt-of-le, le-of-suc-le-suc}
 use native.Mathlib.Omega.{arith}
 use lib.ListN.{length, getD, set}
 use lib.Seq.{getD-set-same, getD-set-other}
 use Rattle.model.specs.Limits.{max-gates}
 use Rattle.model.specs.InTime.{no-increase}
-use Rattle.model.specs.Slack.{source-by}
 use Rattle.model.specs.Arrays.{wires-in}
 use Rattle.model.proofs.Slack.{zeros}
 use Rattle.model.proofs.SameDelays.{source-same}
-use Rattle.timing.specs.Times.{Timeable, LatestTimes, time-bound}
+use Rattle.timing.specs.Times.{Timeable, LatestTimes}
 use Rattle.timing.proofs.Found.{along, source-bounded}
 use Rattle.resizing.specs.Slowed.{Addable, Added, Lasting, Lasts}
 

@@ -1,7 +1,6 @@
 -- `calls_cases::print_slacks` is safe and ends. Assumes nothing.
 use borrow.Author.Needs.{needs}
 use Prim.Native.Nat.{_-_}
-use native.Mathlib.Omega.{arith}
 use lib.ListN.{length}
 use Rattle.calls_cases.proofs.print_slacks.Statement.{statement}
 use Rattle.calls_cases.proofs.print_slacks.Tie as tie

@@ -1,7 +1,6 @@
 -- `calls_cases::run_all` is safe and ends: every record is longer than its header. Assumes nothing.
 use borrow.Author.Needs.{needs}
-use Prim.Native.Nat.{_+_, _-_, _≤_}
-use native.Mathlib.Omega.{arith}
+use Prim.Native.Nat.{_-_, _≤_}
 use lib.ListN.{length}
 use Rattle.calls_cases.proofs.run_all.Statement.{statement}
 use Rattle.calls_cases.proofs.run_all.Tie as tie

@@ -1,7 +1,6 @@
 -- `resizing::longest::longest_with` meets its contract: the latest time at the last gate of the slowed network. Assumes nothing.
 use borrow.Author.Needs.{needs}
-use native.Mathlib.Omega.{arith}
-use Rattle.resizing.proofs.Slowing.{addable, timeable, last-below, lasts}
+use Rattle.resizing.proofs.Slowing.{addable, timeable, lasts}
 use Rattle.resizing.proofs.longest.longest_with.Statement.{statement}
 use Rattle.resizing.proofs.longest.longest_with.Tie as tie
 

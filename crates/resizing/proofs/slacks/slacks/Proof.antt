@@ -1,6 +1,5 @@
 -- `resizing::slacks::slacks` meets its contract: the refusals 1 to 9 as loading finds them, then room, then the slacks. Assumes nothing.
 use borrow.Author.Needs.{needs}
-use native.Mathlib.Omega.{arith}
 use Rattle.model.specs.Limits.{max-gates}
 use Rattle.blockfile.specs.Held.{gate-arrays, wire-arrays}
 use Rattle.resizing.proofs.Refused.{passed-on, wire-room, all-of}

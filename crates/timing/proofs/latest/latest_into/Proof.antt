@@ -1,9 +1,7 @@
 -- `timing::latest::latest_into` meets its contract: a walk along the gate's chain of wires. Assumes nothing.
 use borrow.Author.Needs.{needs}
-use mathlib.Core.Path.{_≡_, sym, _∙_, ap}
-use Prim.Native.Nat.{ℕ, _-_, max, _+_}
+use Prim.Native.Nat.{_-_}
 use native.Mathlib.Omega.{arith}
-use lib.ListN.{getD}
 use Rattle.timing.proofs.Walk.{Walk, walk-starts, walk-at, walk-goes-on, walk-falls, walk-ends}
 use Rattle.timing.proofs.latest.latest_into.Statement.{statement}
 use Rattle.timing.proofs.latest.latest_into.Tie as tie

@@ -1,0 +1,4 @@
+pub mod Trees
+pub mod Adding
+pub mod Steps
+pub mod Tops

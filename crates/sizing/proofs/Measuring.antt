@@ -1,0 +1,97 @@
+-- How long parts last, node after node: the length of a node is made from those of its children. And heads of gates without increase, gate after gate.
+-- Assumes nothing.
+use mathlib.Core.Path.{_≡_, refl, _∙_}
+use mathlib.Core.Logic.{_≢_}
+use mathlib.Core.List.{List}
+use Prim.Native.Nat.{ℕ, _+_, _<_, _^_, max}
+use native.Mathlib.Decide.{ℕ-discrete}
+use native.Mathlib.Omega.{arith}
+use lib.ListN.{length, getD, set}
+use lib.Seq.{getD-set-same, getD-set-other}
+use Rattle.parts.specs.Nodes.{Nodes}
+use Rattle.optimum.specs.Tree.{zeros, longest}
+use Rattle.optimum.specs.Head.{Head}
+use Rattle.sizing.specs.Plan.{node-count, part, kind, left, gate, right}
+use Rattle.sizing.specs.Stored.{Stored, Room, stored, head-at, put}
+use Rattle.sizing.specs.Raise.{Lengths, Measurable, Unslowed, delays-in}
+use Rattle.sizing.proofs.Trees.{part-wire, part-series, part-parallel}
+use Rattle.sizing.proofs.Written.{at-put, beside-put}
+
+module _ {N : Nodes} {delays lengths : List ℕ} {i : ℕ} (able : Measurable N delays lengths) (known : Lengths N (delays-in delays) lengths i) (node : i < node-count N) where
+  abbrev long : ℕ → ℕ
+  long k = longest (delays-in delays) (part N k) (zeros (part N k))
+
+  pub wire-long : kind N i ≡ 0 → gate N i ≡ long i
+  wire-long e = rw (part-wire N i e) refl
+
+  pub in-left-of : {l : ℕ} → kind N i ≢ 0 → l ≡ left N i → l < length lengths
+  in-left-of d e = omega (arith, able .left-below i node (omega arith), able .lengths-long)
+
+  module _ {l r : ℕ} (d : kind N i ≢ 0) (el : l ≡ left N i) (er : r ≡ right N i) where
+    below-left : left N i < i
+    below-left = able .left-below i node (omega arith)
+
+    below-right : right N i < i
+    below-right = able .right-below i node (omega arith)
+
+    pub in-right : r < length lengths
+    in-right = omega (arith, below-right, able .lengths-long)
+
+    pub series-long : {g : ℕ} → g ≡ gate N i → kind N i ≡ 1 → getD lengths l 0 + getD delays g 0 + getD lengths r 0 ≡ long i
+    series-long eg e =
+        rw (part-series N i below-left below-right e) (rw (el, er, eg, known .right (left N i) below-left, known .right (right N i) below-right) (omega arith))
+
+    pub series-short : {g : ℕ} → g ≡ gate N i → kind N i ≡ 1 → getD lengths l 0 + getD delays g 0 + getD lengths r 0 < 2 ^ 32
+    series-short eg e = rw (series-long eg e) (able .short i node)
+
+    pub parallel-long : kind N i ≢ 1 → max (getD lengths l 0) (getD lengths r 0) ≡ long i
+    parallel-long s =
+        rw (part-parallel N i below-left below-right (omega arith)) (rw (el, er, known .right (left N i) below-left, known .right (right N i) below-right) refl)
+
+  -- one length more
+  pub lengths-more : {v : ℕ} → v ≡ long i → Lengths N (delays-in delays) (set lengths i v) (i + 1)
+  lengths-more {v} e = record { right = λ k l. go k l (ℕ-discrete k i) }
+    where
+      go : (k : ℕ) → k < i + 1 → Dec (k ≡ i) → getD (set lengths i v) k 0 ≡ long k
+      go k l (yes s) = rw s (getD-set-same lengths i v 0 (omega (arith, able .lengths-long)) ∙ e)
+      go k l (no d) = getD-set-other lengths i k v 0 d ∙ known .right k (omega arith)
+
+pub measurable-on : {N : Nodes} {delays lengths lengths′ : List ℕ} → Measurable N delays lengths → length lengths′ ≡ length lengths → Measurable N delays lengths′
+measurable-on able e =
+    record {
+      left-below = able .left-below;
+      right-below = able .right-below;
+      lefts-long = able .lefts-long;
+      gates-long = able .gates-long;
+      rights-long = able .rights-long;
+      lengths-long = omega (arith, able .lengths-long);
+      gate-in = able .gate-in;
+      short = able .short;
+    }
+
+-- the heads of one gate more
+pub unslowed-more : {heads : ℕ → ℕ → Head} {x : List ℕ} {G : Stored} {g : ℕ} → Unslowed heads g x G → g < length x → Room G g
+    → {at : ℕ} {a : Head} {G′ : Stored} → at ≡ g → a ≡ heads g 0 → G′ ≡ put G at a → Unslowed heads (g + 1) (set x at 0) G′
+unslowed-more {heads} {x} {G} {g} before l room {at} {a} {G′} t e f =
+    record {
+      no-increase = λ k b. rw t (at-gate k b (ℕ-discrete k g));
+      right = λ k b. rw (f, t, e) (at-head k b (ℕ-discrete k g));
+    }
+  where
+    at-gate : (k : ℕ) → k < g + 1 → Dec (k ≡ g) → getD (set x g 0) k 0 ≡ 0
+    at-gate k b (yes s) = rw s (getD-set-same x g 0 0 l)
+    at-gate k b (no d) = getD-set-other x g k 0 0 d ∙ before .no-increase k (omega arith)
+
+    at-head : (k : ℕ) → k < g + 1 → Dec (k ≡ g) → head-at (put G g (heads g 0)) k ≡ heads k 0
+    at-head k b (yes s) = rw s (at-put G g (heads g 0) room)
+    at-head k b (no d) = beside-put G g k (heads g 0) d ∙ before .right k (omega arith)
+
+-- arrays of the same lengths have the same places
+pub room-same : (a b c a′ b′ c′ : List ℕ) (k : ℕ) → length a′ ≡ length a → length b′ ≡ length b → length c′ ≡ length c → Room (stored a b c) k
+    → Room (stored a′ b′ c′) k
+room-same a b c a′ b′ c′ k ea eb ec room =
+    record {
+      in-widths = omega (arith, room .in-widths);
+      in-gains = omega (arith, room .in-gains);
+      in-ranks = omega (arith, room .in-ranks);
+    }

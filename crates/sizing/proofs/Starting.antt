@@ -1,0 +1,75 @@
+-- From arrays with room to the raised start, and from there to the increases after any number of ticks.
+-- Assumes nothing.
+use mathlib.Core.Path.{_≡_, _∙_, sym, ap}
+use mathlib.Core.List.{List}
+use Prim.Native.Nat.{ℕ, _*_, _^_, _≤_, _<_}
+use native.Mathlib.Omega.{arith}
+use lib.ListN.{length}
+use Rattle.model.specs.Limits.{max-steps, max-width}
+use Rattle.optimum.specs.Tree.{St}
+use Rattle.optimum.specs.Head.{Head}
+use Rattle.optimum.specs.Handout.{head}
+use Rattle.optimum.specs.Increases.{ticks-list, sized}
+use Rattle.sizing.specs.Plan.{Plan, most-gates, node-count, part, kind, gate, parent}
+use Rattle.sizing.specs.Stored.{Stored, Room}
+use Rattle.sizing.specs.State.{State, Ready, TickedOut}
+use Rattle.sizing.specs.Raise.{root, Raisable, Raised, Unslowed, Sizable}
+use Rattle.sizing.specs.Pairs.{Curvable}
+use Rattle.sizing.proofs.Locals.{gate-below}
+
+module _ {P : Plan} {S : State} (able : Sizable P S) where
+  pub root-in : root P < node-count (P .nodes)
+  root-in = omega (arith, able .some-node)
+
+  pub root-above : root P < parent (P .parents) (root P)
+  root-above = able .above (root P) root-in
+
+  pub raisable : {x : List ℕ} {G : Stored} → Unslowed (P .heads) (P .gate-count) x G → length x ≡ length (S .increases)
+      → ((g : ℕ) → g < P .gate-count → Room G g) → Raisable P (record { increases = x; gates = G; nodes = S .nodes })
+  raisable {x} {G} unslowed same room =
+      record {
+        sound = able .sound;
+        above = able .above;
+        some-node = able .some-node;
+        whole = able .whole;
+        lent = record {
+          lefts-long = able .lefts-long;
+          gates-long = able .gates-long;
+          rights-long = able .rights-long;
+          parents-long = able .parents-long;
+          room = able .room;
+          gate-room = λ k l e. room (gate (P .nodes) k) (in-gates k l e);
+          gate-gain = λ k l e.
+              omega (arith, ap (λ (a : Head). a .gain) (unslowed .right (gate (P .nodes) k) (in-gates k l e)), able .sound .small (gate (P .nodes) k) 0);
+        };
+        fresh = record {
+          long = omega (arith, able .one-each);
+          room = room;
+          right = λ g l. unslowed .right g l ∙ ap (P .heads g) (sym (unslowed .no-increase g l));
+        };
+        one-each = same ∙ able .one-each;
+        no-increase = unslowed .no-increase;
+      }
+    where
+      in-gates : (k : ℕ) → k < node-count (P .nodes) → kind (P .nodes) k ≡ 1 → gate (P .nodes) k < P .gate-count
+      in-gates k l e = gate-below (P .nodes) (P .parents) (P .gate-count) k (able .sound .shaped) l e (able .sound .below k l)
+
+  module _ {d : ℕ → ℕ} {S′ : State} (raised : Raised P d S′) where
+    -- at the raised start ticks can be handed out at the root
+    pub root-ready : Ready P S′ (root P)
+    root-ready =
+        record {
+          sound = able .sound;
+          lent = raised .lent;
+          fresh = raised .fresh;
+          node = root-in;
+          local = λ k l. raised .local k (omega (arith, able .some-node));
+        }
+
+    pub sized-after : {S″ : State} {k : ℕ} → TickedOut P S′ S″ (root P) k → S″ .increases ≡ sized d (P .heads) (part (P .nodes) (root P)) (P .gate-count) k
+    sized-after {S″} {k} out = out .increases ∙ ap (ticks-list (P .heads) (part (P .nodes) (root P)) k) (raised .increases)
+
+    -- .. and its runs can be noted
+    pub root-curvable : {steps : ℕ} → ((s : St (part (P .nodes) (root P))) → head (P .heads) (part (P .nodes) (root P)) s .gain < 2 ^ 32)
+        → ((g k : ℕ) → P .heads g k .width ≤ max-width) → steps ≤ most-gates * max-steps → Curvable P S′ (root P) steps
+    root-curvable gains widths few = record { ready = root-ready; above = root-above; gains = gains; widths = widths; few = few }

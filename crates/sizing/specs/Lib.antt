@@ -1,0 +1,5 @@
+pub mod Plan
+pub mod Stored
+pub mod State
+pub mod Raise
+pub mod Pairs

@@ -1,0 +1,108 @@
+// The curve of a node: its runs, each over the whole width of the head, with neighbours of one gain joined.
+use crate::handout::series_give_out;
+ghost use mathlib.Core.Path.{_≡_};
+ghost use Prim.Native.Nat.{ℕ, _+_, _-_, _^_, _≤_, _<_};
+ghost use lib.ListN.{length, getD};
+ghost use Rattle.lists.specs.Search.{Says};
+ghost use Rattle.sizing.specs.Plan.{plan, heads-in, StepsLent};
+ghost use Rattle.sizing.specs.State.{state};
+ghost use Rattle.sizing.specs.Pairs.{Noted, Curvable, NodeCurve};
+
+// Whether the last of `count` pairs has this gain.
+fn continues(count: usize, gain: u32, pair_gains: &[u32]) -> bool
+    requires { ⌜ count ≤ length (now «pair_gains») ⌝ }
+    ensures { λ r. ⌜ Says ((0 < count) × (getD (now («pair_gains» .entry)) (count - 1) 0 ≡ gain)) r ⌝ }
+{
+    if count == 0 {
+        return false;
+    }
+    if pair_gains[count - 1] == gain {
+        return true;
+    }
+    false
+}
+
+// Notes a run behind `count` pairs, joined to the last of them where the gain is the same. Answers how many pairs there are then.
+fn note(
+    count: usize,
+    width: u32,
+    gain: u32,
+    pair_widths: &mut [u32],
+    pair_gains: &mut [u32],
+) -> usize
+    requires { ⌜ (count < length (now «pair_widths»)) × (count < length (now «pair_gains»)) ⌝ }
+    requires { ⌜ ((i : ℕ) → i < count → getD (now «pair_widths») i 0 + width < 2 ^ 32) ⌝ }
+    ensures { λ r. ⌜ Noted count r (now («pair_widths» .entry)) (now («pair_gains» .entry)) (now («pair_widths» .exit)) (now («pair_gains» .exit)) width gain ⌝ }
+{
+    if continues(count, gain, &*pair_gains) {
+        pair_widths[count - 1] = pair_widths[count - 1] + width;
+        return count;
+    }
+    pair_widths[count] = width;
+    pair_gains[count] = gain;
+    count + 1
+}
+
+// Hands out whole runs at node i, at most `steps` of them, and notes the pairs of their curve. Answers how many pairs there are.
+pub fn node_curve(
+    i: usize,
+    steps: usize,
+    n: u32,
+    kinds: &[u32],
+    lefts: &[u32],
+    gates: &[u32],
+    rights: &[u32],
+    parents: &[u32],
+    counts: &[u32],
+    step_widths: &[u32],
+    drops: &[u32],
+    inputs: &[u32],
+    increases: &mut [u32],
+    gate_widths: &mut [u32],
+    gate_gains: &mut [u64],
+    gate_ranks: &mut [u32],
+    widths: &mut [u32],
+    gains: &mut [u64],
+    ranks: &mut [u32],
+    pair_widths: &mut [u32],
+    pair_gains: &mut [u32],
+) -> usize
+    requires { ⌜ Curvable (plan n (now kinds) (now lefts) (now gates) (now rights) (now parents) (heads-in n (now counts) (now «step_widths») (now drops) (now inputs))) (state (now increases) (now «gate_widths») (now «gate_gains») (now «gate_ranks») (now widths) (now gains) (now ranks)) i steps ⌝ }
+    requires { ⌜ StepsLent n (now counts) (now «step_widths») (now drops) (now inputs) ⌝ }
+    requires { ⌜ (steps ≤ length (now «pair_widths»)) × (steps ≤ length (now «pair_gains»)) ⌝ }
+    ensures { λ r. ⌜ NodeCurve (plan n (now (kinds .entry)) (now (lefts .entry)) (now (gates .entry)) (now (rights .entry)) (now (parents .entry)) (heads-in n (now (counts .entry)) (now («step_widths» .entry)) (now (drops .entry)) (now (inputs .entry)))) (now (increases .entry)) i steps r (now («pair_widths» .entry)) (now («pair_gains» .entry)) (now («pair_widths» .exit)) (now («pair_gains» .exit)) ⌝ }
+{
+    let mut count: usize = 0;
+    let mut k: usize = 0;
+    while k < steps {
+        let gain = gains[i];
+        if gain == 0 {
+            return count;
+        }
+        let width = widths[i];
+        count = note(count, width, gain as u32, pair_widths, pair_gains);
+        series_give_out(
+            i,
+            width,
+            n,
+            kinds,
+            lefts,
+            gates,
+            rights,
+            parents,
+            counts,
+            step_widths,
+            drops,
+            inputs,
+            increases,
+            gate_widths,
+            gate_gains,
+            gate_ranks,
+            widths,
+            gains,
+            ranks,
+        );
+        k += 1;
+    }
+    count
+}

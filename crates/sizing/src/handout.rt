@@ -1,0 +1,192 @@
+// Ticks handed out at a node: in series to the item that leads, in parallel to both sides. The two functions call each other; each hand-over from a parallel part is to one with fewer wires.
+use crate::below::renew_up;
+use crate::gate::gate_give_out;
+use crate::store::index;
+use crate::way::descend;
+ghost use Prim.Native.Nat.{_<_};
+ghost use Rattle.sizing.specs.Plan.{plan, nodes-in, heads-in, kind, parent, StepsLent};
+ghost use Rattle.sizing.specs.State.{state, Ready, Fitting, GivenOut};
+
+// Hands out w ticks at node i, to the item that leads: a gate, or a parallel part. Without a head it does nothing.
+pub fn series_give_out(
+    i: usize,
+    w: u32,
+    n: u32,
+    kinds: &[u32],
+    lefts: &[u32],
+    gates: &[u32],
+    rights: &[u32],
+    parents: &[u32],
+    counts: &[u32],
+    step_widths: &[u32],
+    drops: &[u32],
+    inputs: &[u32],
+    increases: &mut [u32],
+    gate_widths: &mut [u32],
+    gate_gains: &mut [u64],
+    gate_ranks: &mut [u32],
+    widths: &mut [u32],
+    gains: &mut [u64],
+    ranks: &mut [u32],
+)
+    requires { ⌜ Ready (plan n (now kinds) (now lefts) (now gates) (now rights) (now parents) (heads-in n (now counts) (now «step_widths») (now drops) (now inputs))) (state (now increases) (now «gate_widths») (now «gate_gains») (now «gate_ranks») (now widths) (now gains) (now ranks)) i ⌝ }
+    requires { ⌜ StepsLent n (now counts) (now «step_widths») (now drops) (now inputs) ⌝ }
+    requires { ⌜ Fitting (state (now increases) (now «gate_widths») (now «gate_gains») (now «gate_ranks») (now widths) (now gains) (now ranks)) i w ⌝ }
+    ensures { λ r. ⌜ GivenOut (plan n (now (kinds .entry)) (now (lefts .entry)) (now (gates .entry)) (now (rights .entry)) (now (parents .entry)) (heads-in n (now (counts .entry)) (now («step_widths» .entry)) (now (drops .entry)) (now (inputs .entry)))) (state (now (increases .entry)) (now («gate_widths» .entry)) (now («gate_gains» .entry)) (now («gate_ranks» .entry)) (now (widths .entry)) (now (gains .entry)) (now (ranks .entry))) (state (now (increases .exit)) (now («gate_widths» .exit)) (now («gate_gains» .exit)) (now («gate_ranks» .exit)) (now (widths .exit)) (now (gains .exit)) (now (ranks .exit))) i w (parent (now (parents .entry)) i) ⌝ }
+{
+    if gains[i] == 0 {
+        return;
+    }
+    let j = descend(
+        i,
+        kinds,
+        lefts,
+        gates,
+        rights,
+        &*gate_widths,
+        &*gate_gains,
+        &*gate_ranks,
+        &*widths,
+        &*gains,
+        &*ranks,
+    );
+    if kinds[j] == 1 {
+        gate_give_out(
+            n,
+            gates[j],
+            w,
+            counts,
+            step_widths,
+            drops,
+            inputs,
+            increases,
+            gate_widths,
+            gate_gains,
+            gate_ranks,
+        );
+        renew_up(
+            j,
+            i,
+            kinds,
+            lefts,
+            gates,
+            rights,
+            parents,
+            &*gate_widths,
+            &*gate_gains,
+            &*gate_ranks,
+            widths,
+            gains,
+            ranks,
+        );
+        return;
+    }
+    parallel_give_out(
+        j,
+        w,
+        n,
+        kinds,
+        lefts,
+        gates,
+        rights,
+        parents,
+        counts,
+        step_widths,
+        drops,
+        inputs,
+        increases,
+        gate_widths,
+        gate_gains,
+        gate_ranks,
+        widths,
+        gains,
+        ranks,
+    );
+    renew_up(
+        j,
+        i,
+        kinds,
+        lefts,
+        gates,
+        rights,
+        parents,
+        &*gate_widths,
+        &*gate_gains,
+        &*gate_ranks,
+        widths,
+        gains,
+        ranks,
+    );
+}
+
+// Hands out w ticks at parallel node i, to both of its sides. Its own head is left for the caller to renew.
+pub fn parallel_give_out(
+    i: usize,
+    w: u32,
+    n: u32,
+    kinds: &[u32],
+    lefts: &[u32],
+    gates: &[u32],
+    rights: &[u32],
+    parents: &[u32],
+    counts: &[u32],
+    step_widths: &[u32],
+    drops: &[u32],
+    inputs: &[u32],
+    increases: &mut [u32],
+    gate_widths: &mut [u32],
+    gate_gains: &mut [u64],
+    gate_ranks: &mut [u32],
+    widths: &mut [u32],
+    gains: &mut [u64],
+    ranks: &mut [u32],
+)
+    requires { ⌜ 1 < kind (nodes-in (now kinds) (now lefts) (now gates) (now rights)) i ⌝ }
+    requires { ⌜ Ready (plan n (now kinds) (now lefts) (now gates) (now rights) (now parents) (heads-in n (now counts) (now «step_widths») (now drops) (now inputs))) (state (now increases) (now «gate_widths») (now «gate_gains») (now «gate_ranks») (now widths) (now gains) (now ranks)) i ⌝ }
+    requires { ⌜ StepsLent n (now counts) (now «step_widths») (now drops) (now inputs) ⌝ }
+    requires { ⌜ Fitting (state (now increases) (now «gate_widths») (now «gate_gains») (now «gate_ranks») (now widths) (now gains) (now ranks)) i w ⌝ }
+    ensures { λ r. ⌜ GivenOut (plan n (now (kinds .entry)) (now (lefts .entry)) (now (gates .entry)) (now (rights .entry)) (now (parents .entry)) (heads-in n (now (counts .entry)) (now («step_widths» .entry)) (now (drops .entry)) (now (inputs .entry)))) (state (now (increases .entry)) (now («gate_widths» .entry)) (now («gate_gains» .entry)) (now («gate_ranks» .entry)) (now (widths .entry)) (now (gains .entry)) (now (ranks .entry))) (state (now (increases .exit)) (now («gate_widths» .exit)) (now («gate_gains» .exit)) (now («gate_ranks» .exit)) (now (widths .exit)) (now (gains .exit)) (now (ranks .exit))) i w i ⌝ }
+{
+    series_give_out(
+        index(lefts[i]),
+        w,
+        n,
+        kinds,
+        lefts,
+        gates,
+        rights,
+        parents,
+        counts,
+        step_widths,
+        drops,
+        inputs,
+        increases,
+        gate_widths,
+        gate_gains,
+        gate_ranks,
+        widths,
+        gains,
+        ranks,
+    );
+    series_give_out(
+        index(rights[i]),
+        w,
+        n,
+        kinds,
+        lefts,
+        gates,
+        rights,
+        parents,
+        counts,
+        step_widths,
+        drops,
+        inputs,
+        increases,
+        gate_widths,
+        gate_gains,
+        gate_ranks,
+        widths,
+        gains,
+        ranks,
+    );
+}
