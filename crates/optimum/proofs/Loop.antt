@@ -13,7 +13,7 @@ use Rattle.optimum.proofs.Handout.{give-is-ticks, ticks-none}
 use Rattle.optimum.proofs.Increases.{Placed, give-frame, ticks-frame, frame-none, same-lists, read-give, read-ticks, length-sized}
 
 -- j + k ticks are j and then k
-ticks-list-add : (h : ℕ → ℕ → Head) (t : Tree) (j k : ℕ) (x : List ℕ) → ticks-list h t (j + k) x ≡ ticks-list h t k (ticks-list h t j x)
+pub ticks-list-add : (h : ℕ → ℕ → Head) (t : Tree) (j k : ℕ) (x : List ℕ) → ticks-list h t (j + k) x ≡ ticks-list h t k (ticks-list h t j x)
 ticks-list-add h t zero k x = rw zero-add refl
 ticks-list-add h t (suc j) k x = rw suc-add (ticks-list-add h t j k (give-list h t 1 x))
 

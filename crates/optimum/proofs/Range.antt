@@ -91,7 +91,7 @@ size-counts n t b =
     ∙ size-across t (read t [])
 
 -- a tree of a block has as many gates as the block
-tree-size : (B : Block) (t : Tree) → IsTree B t → size t ≡ gate-count B
+pub tree-size : (B : Block) (t : Tree) → IsTree B t → size t ≡ gate-count B
 tree-size B t tree =
     sym (size-counts (gate-count B) t (tree .below))
     ∙ sum-same (gate-count B) (count t) (λ (g : ℕ). 1) (tree .all)

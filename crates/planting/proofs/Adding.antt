@@ -1,15 +1,15 @@
 -- Copying a tree adds it at the nodes from c on (`copied-added`): by induction on the tree. One step serves series and parallel: two trees added one after the other, then a node above both.
 -- Assumes nothing.
-use mathlib.Core.Path.{_≡_, refl, sym, _∙_, ap, ap₂}
+use mathlib.Core.Path.{_≡_, refl, sym, _∙_, ap}
 use mathlib.Core.Logic.{_⊎_, inl, inr}
 use Prim.Native.Nat.{ℕ, _+_, _-_, _≤_, _<_}
 use native.Mathlib.Omega.{arith}
-use lib.ListN.{getD, set, length-set}
+use lib.ListN.{set, length-set}
 use lib.Seq.{getD-set-same, getD-set-other}
 use Rattle.lists.proofs.Compare.{le-or-lt}
 use Rattle.parts.specs.Nodes.{leaf, chain, beside, Nodes, node-tree, tree-of, Tree as NodeTree}
 use Rattle.parts.proofs.Nodes.{tree-at, tree-wire, SameNode, grown}
-use Rattle.optimum.specs.Tree.{Tree, wire, count, Once, size}
+use Rattle.optimum.specs.Tree.{Tree, count, Once, size}
 use Rattle.optimum.proofs.Count.{is-self}
 use Rattle.planting.specs.Copy.{Plot, nodes-of, with-leaf, with-parent, copied, Room}
 use Rattle.planting.specs.Planted.{as-tree, part, kind, left, gate, right, parent, Inside}

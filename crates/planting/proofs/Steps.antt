@@ -1,14 +1,13 @@
 -- What the copying functions write, put together. Assumes nothing.
-use mathlib.Core.Path.{_≡_, refl, sym, _∙_, ap, ap₂}
+use mathlib.Core.Path.{_≡_, refl, sym, _∙_, ap}
 use mathlib.Core.Logic.{_⊎_, inl, inr}
-use mathlib.Core.List.{List}
-use Prim.Native.Nat.{ℕ, zero, suc, _+_, _-_, _≤_, _<_}
+use Prim.Native.Nat.{ℕ, zero, suc, _+_, _≤_, _<_}
 use native.Mathlib.Decide.{ℕ-discrete}
 use native.Mathlib.Omega.{arith}
-use lib.ListN.{getD, set}
+use lib.ListN.{getD}
 use Rattle.parts.specs.Nodes.{leaf, chain, beside, Nodes, node-tree, tree-of, Tree}
 use Rattle.parts.proofs.Nodes.{tree-at, tree-wire}
-use Rattle.planting.specs.Copy.{Plot, plot, nodes-of, with-leaf, with-parent, copied, Readable, Room}
+use Rattle.planting.specs.Copy.{Plot, nodes-of, with-leaf, with-parent, copied, Readable, Room}
 use Rattle.planting.proofs.Adding.{nodes-some, less-room, copied-room}
 
 -- node i is no wire: its children have smaller numbers

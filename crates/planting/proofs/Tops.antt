@@ -7,10 +7,9 @@ use native.Mathlib.Omega.{arith}
 use lib.ListN.{length, set}
 use lib.Seq.{getD-set-same, getD-set-other}
 use Rattle.parts.specs.Nodes.{Tree, leaf, chain}
-use Rattle.planting.specs.Copy.{Plot, plot, nodes-of, with-leaf, with-parent, copied, rooted, Room}
+use Rattle.planting.specs.Copy.{Plot, nodes-of, with-leaf, with-parent, copied, rooted, Room}
 use Rattle.planting.specs.Planted.{left, right, Planted, whole, lone}
 use Rattle.planting.proofs.Adding.{Added, nodes-some, less-room, leaf-room, parent-room, copied-room, copied-added}
-use Rattle.planting.proofs.Steps.{Done}
 
 pub planted : (t : Tree) (A : Plot) → Room A (nodes-of t) → Planted t (nodes-of t) (rooted (nodes-of t) (copied t 0 A))
 planted t A room = go (copied t 0 A) (copied-room t 0 _ A room) (copied-added t 0 A (less-room (omega arith) room))

@@ -1,6 +1,6 @@
 -- A tree of parts with its wires' delays is the tree of its shape (`converted`), and a tree of a whole block that of the block (`whole-converted`).
 -- Assumes nothing.
-use mathlib.Core.Path.{_≡_, refl, ap, ap₂, sym}
+use mathlib.Core.Path.{_≡_, ap, ap₂, sym}
 use mathlib.Core.List.{List}
 use Prim.Native.Nat.{ℕ}
 use Rattle.model.specs.Block.{Wire, Block, first, last}

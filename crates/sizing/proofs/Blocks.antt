@@ -24,15 +24,11 @@ use Rattle.optimum.proofs.Gates.{gate-heads}
 use Rattle.sizing.specs.Plan.{step-head, heads-in}
 use Rattle.sizing.specs.Raise.{delays-in}
 
-beyond : (xs : List Gate) (g : ℕ) → length xs ≤ g → getD xs g no-gate ≡ no-gate
-beyond [] g l = refl
-beyond (a ∷ xs) zero l = absurd (omega arith)
-beyond (a ∷ xs) (suc g) l = beyond xs g (omega arith)
-
-none-there : (xs : List ℕ) (g : ℕ) → length xs ≤ g → getD xs g 0 ≡ 0
-none-there [] g l = refl
-none-there (a ∷ xs) zero l = absurd (omega arith)
-none-there (a ∷ xs) (suc g) l = none-there xs g (omega arith)
+-- behind the end of a list there is nothing
+beyond : {A : Type 0} (xs : List A) (d : A) (g : ℕ) → length xs ≤ g → getD xs g d ≡ d
+beyond [] d g l = refl
+beyond (a ∷ xs) d zero l = absurd (omega arith)
+beyond (a ∷ xs) d (suc g) l = beyond xs d g (omega arith)
 
 -- B's gates and their input activities stand in the arrays.
 pub record Held (B : Block) (n : ℕ) (delays activities counts step-widths drops inputs : List ℕ) : Type 0 where
@@ -53,7 +49,7 @@ module _ {B : Block} {n : ℕ} {delays activities counts step-widths drops input
   gate-is g l = ap (λ (gs : List Gate). getD gs g no-gate) (held .gates) ∙ getD-build n at g no-gate l
 
   no-gate-there : (g : ℕ) → n ≤ g → gate B g ≡ no-gate
-  no-gate-there g l = beyond (B .gates) g (omega (arith, as-many))
+  no-gate-there g l = beyond (B .gates) no-gate g (omega (arith, as-many))
 
   head-is : (g k : ℕ) → (g < n) ⊎ (n ≤ g) → heads-in n counts step-widths drops inputs g k ≡ gate-head B g k
   unfolding heads-in gate-head step-head gain drop-of at
@@ -73,7 +69,7 @@ module _ {B : Block} {n : ℕ} {delays activities counts step-widths drops input
 
   delay-is : (g : ℕ) → (n ≤ g) ⊎ (g < n) → delays-in delays g ≡ drawn B g
   unfolding at
-  delay-is g (inl l) = none-there delays g (omega (arith, held .one-delay-each)) ∙ ap (λ (a : Gate). a .delay) (sym (no-gate-there g l))
+  delay-is g (inl l) = beyond delays 0 g (omega (arith, held .one-delay-each)) ∙ ap (λ (a : Gate). a .delay) (sym (no-gate-there g l))
   delay-is g (inr l) = ap (λ (a : Gate). a .delay) (sym (gate-is g l))
 
   pub delays-are : delays-in delays ≡ drawn B

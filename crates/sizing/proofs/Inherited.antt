@@ -10,7 +10,8 @@ use Rattle.parts.specs.Nodes.{Nodes}
 use Rattle.optimum.specs.Tree.{Tree, wire, series, parallel, count, Once, Below, size, St, across}
 use Rattle.optimum.specs.Increases.{read}
 use Rattle.sizing.specs.Plan.{most-gates, node-count, part, kind, left, right, parent, Shaped, Linked}
-use Rattle.optimum.proofs.Sums.{sum-at-most, sum-constant, across-count}
+use Rattle.lists.proofs.Sum.{sum-le}
+use Rattle.optimum.proofs.Sums.{sum-constant, across-count}
 use Rattle.sizing.proofs.Trees.{by-kind, part-series, part-parallel}
 
 -- where gates below n stand once there are at most n of them
@@ -25,7 +26,7 @@ size-at-most n t once below =
       arith,
       size-is t (read t []),
       across-count (λ (g k : ℕ). 1) n t [] below,
-      sum-at-most n (λ (g : ℕ). count t g * 1) (λ (g : ℕ). 1) (λ g l. omega (arith, once g)),
+      sum-le n (λ (g : ℕ). count t g * 1) (λ (g : ℕ). 1) (λ g l. omega (arith, once g)),
       sum-constant n 1,
     )
 

@@ -1,5 +1,4 @@
 -- `planting::plant` meets its contract: the pieces that it writes are those of the whole tree. Assumes nothing.
-use borrow.Author.Needs.{needs}
 use mathlib.Core.Path.{_∙_}
 use native.Mathlib.Omega.{arith}
 use Rattle.parts.specs.Nodes.{tree-of}

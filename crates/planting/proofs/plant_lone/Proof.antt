@@ -1,5 +1,4 @@
 -- `planting::plant_lone` meets its contract: the pieces that it writes are those of a gate alone. Assumes nothing.
-use borrow.Author.Needs.{needs}
 use mathlib.Core.Path.{refl, _∙_}
 use native.Mathlib.Omega.{arith}
 use Rattle.planting.proofs.Adding.{less-room}

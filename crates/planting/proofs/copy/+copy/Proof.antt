@@ -1,6 +1,5 @@
 -- The proof of the cycle of calls {copy}. The measure is the number of the node copied: children have smaller numbers.
 -- Assumes nothing.
-use borrow.Author.Needs.{needs}
 use mathlib.Core.Path.{_∙_}
 use native.Mathlib.Omega.{arith}
 use Rattle.planting.proofs.Steps.{leaf-asked, leaf-done, left-asked, left-done, right-asked, right-done, top-asked, chain-done, beside-done}

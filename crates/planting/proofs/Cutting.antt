@@ -1,0 +1,78 @@
+-- What is planted in the first c nodes stays so in other arrays that agree there (`same-planted`), as in the arrays cut off at c; and the reduction's root can be copied.
+-- Assumes nothing.
+use mathlib.Core.Path.{_≡_, sym, _∙_}
+use Prim.Native.Nat.{ℕ, _≤_, _<_}
+use native.Mathlib.Omega.{arith}
+use lib.ListN.{length, take}
+use lib.Seq.{getD-take}
+use Rattle.model.specs.Block.{Block}
+use Rattle.parts.specs.Nodes.{Nodes, Tree, tree-of}
+use Rattle.parts.specs.Answered.{Rooted}
+use Rattle.parts.proofs.Nodes.{SameNode, grown}
+use Rattle.planting.specs.Copy.{Plot, plot, Readable}
+use Rattle.planting.specs.Planted.{kind, parent, Planted}
+
+module _
+    {t : Tree}
+    {c : ℕ}
+    {A : Plot}
+    (B : Plot)
+    (some : 0 < c)
+    (same : (k : ℕ) → k < c → SameNode (A .nodes) (B .nodes) k)
+    (same-parent : (k : ℕ) → k < c → parent B k ≡ parent A k)
+    (p : Planted t c A)
+  where
+    same-tree : (k : ℕ) → k < c → tree-of (B .nodes) k ≡ tree-of (A .nodes) k
+    same-tree = grown (A .nodes) (B .nodes) c same
+
+    some-kind : (k : ℕ) → k < c → 0 < kind (B .nodes) k → 0 < kind (A .nodes) k
+    some-kind k h s = omega (arith, same k h .kind)
+
+    pub same-planted : Planted t c B
+    same-planted =
+        record {
+          top = same-tree _ (omega arith) ∙ p .top;
+          top-parent = same-parent _ (omega arith) ∙ p .top-parent;
+          left-below = λ k h s. omega (arith, same k h .left, p .left-below k h (some-kind k h s));
+          right-below = λ k h s. omega (arith, same k h .right, p .right-below k h (some-kind k h s));
+          left-parent =
+              λ k h s.
+              let l = p .left-below k h (some-kind k h s) in
+              rw (same k h .left) (same-parent _ (omega arith) ∙ p .left-parent k h (some-kind k h s));
+          right-parent =
+              λ k h s.
+              let l = p .right-below k h (some-kind k h s) in
+              rw (same k h .right) (same-parent _ (omega arith) ∙ p .right-parent k h (some-kind k h s));
+          own-gate =
+              λ once j k h i x y z.
+              p .own-gate once j k h i (sym (same j h .kind) ∙ x) (sym (same k i .kind) ∙ y) (sym (same j h .gate) ∙ z ∙ same k i .gate);
+          inside = λ k h. rw (same-tree k h) (p .inside k h);
+        }
+
+-- the arrays cut off at c
+abbrev pub cut : ℕ → Plot → Plot
+cut c A = plot (take c (A .nodes .kinds)) (take c (A .nodes .lefts)) (take c (A .nodes .gates)) (take c (A .nodes .rights)) (take c (A .parents))
+
+pub cut-planted : {t : Tree} {c : ℕ} {A : Plot} → 0 < c → Planted t c A → Planted t c (cut c A)
+cut-planted {t} {c} {A} some p =
+    same-planted (cut c A) some
+    (λ k h.
+    record {
+      kind = getD-take c (A .nodes .kinds) k 0 h;
+      left = getD-take c (A .nodes .lefts) k 0 h;
+      gate = getD-take c (A .nodes .gates) k 0 h;
+      right = getD-take c (A .nodes .rights) k 0 h;
+    })
+    (λ k h. getD-take c (A .parents) k 0 h)
+    p
+
+-- The reduction's root can be copied from arrays that hold its nodes.
+pub rooted-readable : {B : Block} {T : Nodes} {i n : ℕ} → Rooted B T i n → n ≤ length (T .kinds) → n ≤ length (T .lefts) → n ≤ length (T .gates) → n ≤ length (T .rights) → Readable T i
+rooted-readable r a b c d =
+    record {
+      kind-in = omega (arith, r .below);
+      left-in = omega (arith, r .below);
+      gate-in = omega (arith, r .below);
+      right-in = omega (arith, r .below);
+      children = λ j h. r .children j (omega (arith, r .below));
+    }

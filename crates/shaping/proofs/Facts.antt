@@ -1,0 +1,88 @@
+-- A block within the limits whose network is sound is one that the reduction (parts) and the theorem (optimum) may take: its wires join its gates, none stands twice, its drops fall, its activities and drops are bounded.
+-- Assumes nothing.
+use mathlib.Core.Path.{_≡_, refl, sym, ap, subst}
+use mathlib.Core.Logic.{_≢_, _⊎_, inl, inr}
+use mathlib.Core.List.{List, [], _∷_, List·Memᴰ·cases-cons, List·Memᴰ·not-nil}
+use Prim.Native.Nat.{ℕ, suc, _<_}
+use native.Mathlib.Omega.{arith}
+use lib.ListN.{length, getD}
+use Rattle.lists.proofs.Compare.{compared}
+use Rattle.model.specs.Block.{Wire, Block, gate-count, first, last, Stands, Joined}
+use Rattle.model.specs.Refusal.{SoundNetwork, into-first, out-of-last}
+use Rattle.model.proofs.Limited.{BlockLimits}
+use Rattle.model.proofs.Slack.{entered, left}
+use Rattle.model.proofs.Turned.{stands-unturned}
+use Rattle.optimum.specs.BlockTree.{WiresJoinGates, NoneTwice}
+use Rattle.parts.specs.Network.{Network, wire-at}
+
+-- a wire that stands in a list has a place there
+placed : {a b w : ℕ} (ws : List Wire) (d : Wire) → Stands ws a b w → (i : ℕ) × (i < length ws) × (getD ws i d ≡ record { source = a; target = b; delay = w })
+placed [] d on = absurd (List·Memᴰ·not-nil on)
+placed {a} {b} {w} (v ∷ ws) d on = by (List·Memᴰ·cases-cons on) (placed ws d)
+  where
+    by : (record { source = a; target = b; delay = w } ≡ v) ⊎ Stands ws a b w
+        → (Stands ws a b w → (i : ℕ) × (i < length ws) × (getD ws i d ≡ record { source = a; target = b; delay = w }))
+        → (i : ℕ) × (i < suc (length ws)) × (getD (v ∷ ws) i d ≡ record { source = a; target = b; delay = w })
+    by (inl e) rest = (0, omega arith, sym e)
+    by (inr m) rest = let r = rest m in let l = r .1 in (suc (r .0), omega arith, r .2)
+
+-- no two places of the list hold wires between the same gates
+abbrev Apart : List Wire → Type 0
+Apart ws =
+    (i j : ℕ) (d : Wire) → i < j → j < length ws → getD ws j d .source ≡ getD ws i d .source → getD ws j d .target ≢ getD ws i d .target
+
+none-twice : (ws : List Wire) → Apart ws → NoneTwice ws
+none-twice [] apart = tt
+none-twice (v ∷ ws) apart = (
+  λ (j : Joined ws (v .source) (v .target)).
+      let r = placed ws v (j .1) in
+      let l = r .1 in
+      apart 0 (suc (r .0)) v (omega arith) (omega arith) (ap (λ (u : Wire). u .source) (r .2)) (ap (λ (u : Wire). u .target) (r .2)),
+  none-twice ws (λ (i j : ℕ) (d : Wire) (h : i < j) (l : j < length ws). apart (suc i) (suc j) d (omega arith) (omega arith)),
+)
+
+module _ (B : Block) (limits : BlockLimits B) (sound : SoundNetwork B) where
+  pub join : WiresJoinGates B
+  join u v j =
+      let d : Wire = record { source = 0; target = 0; delay = 0 } in
+      let r = placed (B .wires) d (j .1) in
+      let l = limits .wire-limits (r .0) d (r .1) in (
+        subst (λ (w : Wire). w .source < gate-count B) (r .2) (l .source-below),
+        subst (λ (w : Wire). w .target < gate-count B) (r .2) (l .target-below),
+      )
+
+  pub no-wire-twice : NoneTwice (B .wires)
+  no-wire-twice = none-twice (B .wires) (limits .no-wire-twice)
+
+  same-place : (i j : ℕ) → i < length (B .wires) → j < length (B .wires)
+      → wire-at (B .wires) i .source ≡ wire-at (B .wires) j .source
+      → wire-at (B .wires) i .target ≡ wire-at (B .wires) j .target
+      → i ≡ j
+  same-place i j hi hj s t = by (compared i j)
+    where
+      d : Wire
+      d = record { source = 0; target = 0; delay = 0 }
+
+      by : (i < j) ⊎ (i ≡ j) ⊎ (j < i) → i ≡ j
+      by (inl l) = absurd (limits .no-wire-twice i j d l hj (sym s) (sym t))
+      by (inr (inl e)) = e
+      by (inr (inr l)) = absurd (limits .no-wire-twice j i d l hi s t)
+
+  pub network : Network B
+  network =
+      record {
+        some-gate = limits .some-gate;
+        below = join;
+        once = same-place;
+        acyclic = sound .no-loop;
+        first-none = λ (x : ℕ) (j : Joined (B .wires) x (first B)). sound .ends (first B) (into-first x refl j);
+        wire-into =
+            λ (g : ℕ) (h : g < gate-count B) (other : g ≢ first B).
+            let r = entered B sound g h other in
+            (r .0, (r .1, r .2));
+        last-none = λ (y : ℕ) (j : Joined (B .wires) (last B) y). sound .ends (last B) (out-of-last y refl j);
+        wire-from =
+            λ (g : ℕ) (h : g < gate-count B) (other : g ≢ last B).
+            let r = left B sound g h other in
+            (r .0, (r .1, stands-unturned (B .wires) (r .2)));
+      }
