@@ -1,4 +1,4 @@
--- The limits of a block file (document 01, "The block file"), each by its name. They stand in `decode` (File) and in `Limited` (File), and nowhere else.
+-- The limits of a block file (document 01, "The block file"), each by its name. A file is held to them by `decode` and `Limited` (File) alone; elsewhere they say how much room an array has and how large a number can be.
 use Prim.Native.Nat.{ℕ, _*_, _-_}
 
 -- gates of a block, at most
