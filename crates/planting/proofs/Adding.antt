@@ -6,7 +6,7 @@ use Prim.Native.Nat.{ℕ, _+_, _-_, _≤_, _<_}
 use native.Mathlib.Omega.{arith}
 use lib.ListN.{set, length-set}
 use lib.Seq.{getD-set-same, getD-set-other}
-use Rattle.lists.proofs.Compare.{le-or-lt}
+use Rattle.lists.proofs.Compare.{le-or-lt, compared}
 use Rattle.parts.specs.Nodes.{leaf, chain, beside, Nodes, node-tree, tree-of, Tree as NodeTree}
 use Rattle.parts.proofs.Nodes.{tree-at, tree-wire, SameNode, grown}
 use Rattle.optimum.specs.Tree.{Tree, count, Once, size}
@@ -29,6 +29,7 @@ pub record Added (t : NodeTree) (c : ℕ) (A B : Plot) : Type 0 where
   pub same-parent : (k : ℕ) → k < c → parent B k ≡ parent A k
   pub top : tree-of (B .nodes) (c + nodes-of t - 1) ≡ t
   pub parents : (k : ℕ) → c ≤ k → k < c + nodes-of t → 0 < kind (B .nodes) k → Parent B c k
+  pub above : (k : ℕ) → c ≤ k → k + 1 < c + nodes-of t → k < parent B k
   pub inside : (k : ℕ) → c ≤ k → k < c + nodes-of t → Inside (part (B .nodes) k) (as-tree t)
   pub own-gate : Once (as-tree t) → (j k : ℕ) → c ≤ j → j < c + nodes-of t → c ≤ k → k < c + nodes-of t → kind (B .nodes) j ≡ 1
       → kind (B .nodes) k ≡ 1 → gate (B .nodes) j ≡ gate (B .nodes) k → j ≡ k
@@ -72,6 +73,7 @@ module _ (d c : ℕ) (A : Plot) (room : Room A (c + 1)) where
         same-parent = λ k l. refl;
         top = tree-there (c + 1 - 1) (omega arith);
         parents = λ k l m p. absurd (omega (arith, kind-there k (omega arith), p));
+        above = λ k l m. absurd (omega arith);
         inside = λ k l m. inside-is (ap as-tree (tree-there k (omega arith)));
         own-gate = λ once j k a b e f x y z. omega arith;
       }
@@ -259,6 +261,18 @@ module _
           right-parent = rw right-top parent-right;
         })
 
+    -- every node but the top has a parent above it
+    above-all : (k : ℕ) → c ≤ k → k < r → k < parent D k
+    above-all k h b = go (compared k (l - 1)) (compared k (r - 1))
+      where
+        go : (k < l - 1) ⊎ (k ≡ l - 1) ⊎ (l - 1 < k) → (k < r - 1) ⊎ (k ≡ r - 1) ⊎ (r - 1 < k) → k < parent D k
+        go (inl i) j =
+            omega (arith, parent-other k (omega arith) (omega (arith, nodes-some Q)), q .same-parent k (omega arith), p .above k h (omega arith))
+        go (inr (inl e)) j = rw (e, parent-left) (omega (arith, nodes-some P))
+        go (inr (inr i)) (inl j) = omega (arith, parent-other k (omega arith) (omega arith), q .above k (omega arith) (omega arith))
+        go (inr (inr i)) (inr (inl e)) = rw (e, parent-right) (omega (arith, nodes-some Q))
+        go (inr (inr i)) (inr (inr j)) = absurd (omega arith)
+
     in-left : (k : ℕ) → c ≤ k → k < l → kind (D .nodes) k ≡ 1 → 0 < count (as-tree P) (gate (D .nodes) k)
     in-left k h a e = let n = left-same k a in rw (n .gate) (gate-in p k h a (sym (n .kind) ∙ e))
 
@@ -303,6 +317,7 @@ module _
               parent-other k (omega (arith, nodes-some P)) (omega (arith, nodes-some P, nodes-some Q)) ∙ q .same-parent k (omega arith) ∙ p .same-parent k h;
           top = let e : c + nodes-of t - 1 ≡ r = omega (arith, J .nodes) in rw e top-is;
           parents = λ k h n. parents-all k h (place k n);
+          above = λ k h n. above-all k h (omega (arith, J .nodes));
           inside = λ k h n. inside-all k h (place k n);
           own-gate = λ once j k a b d e. own-all once j k a d (place j b) (place k e);
         }

@@ -33,6 +33,7 @@ module _
         record {
           top = same-tree _ (omega arith) ∙ p .top;
           top-parent = same-parent _ (omega arith) ∙ p .top-parent;
+          above = λ k h. omega (arith, same-parent k h, p .above k h);
           left-below = λ k h s. omega (arith, same k h .left, p .left-below k h (some-kind k h s));
           right-below = λ k h s. omega (arith, same k h .right, p .right-below k h (some-kind k h s));
           left-parent =

@@ -1,14 +1,16 @@
 -- A tree copied to the first nodes, its top's parent written, is planted (`planted`); so are the tree of a whole block and a gate alone, written piece by piece.
 -- Assumes nothing.
 use mathlib.Core.Path.{_≡_, refl, _∙_, ap₂}
+use mathlib.Core.Logic.{_⊎_, inl, inr}
 use mathlib.Core.List.{List}
 use Prim.Native.Nat.{ℕ, _+_, _-_, _≤_, _<_, _^_}
 use native.Mathlib.Omega.{arith}
 use lib.ListN.{length, set}
 use lib.Seq.{getD-set-same, getD-set-other}
+use Rattle.lists.proofs.Compare.{compared}
 use Rattle.parts.specs.Nodes.{Tree, leaf, chain}
 use Rattle.planting.specs.Copy.{Plot, nodes-of, with-leaf, with-parent, copied, rooted, Room}
-use Rattle.planting.specs.Planted.{left, right, Planted, whole, lone}
+use Rattle.planting.specs.Planted.{left, right, parent, Planted, whole, lone}
 use Rattle.planting.proofs.Adding.{Added, nodes-some, less-room, leaf-room, parent-room, copied-room, copied-added}
 
 pub planted : (t : Tree) (A : Plot) → Room A (nodes-of t) → Planted t (nodes-of t) (rooted (nodes-of t) (copied t 0 A))
@@ -19,6 +21,7 @@ planted t A room = go (copied t 0 A) (copied-room t 0 _ A room) (copied-added t 
         record {
           top = let e : nodes-of t - 1 ≡ 0 + nodes-of t - 1 = omega arith in rw e (a .top);
           top-parent = getD-set-same (B .parents) (nodes-of t - 1) (nodes-of t) 0 (omega (arith, there .parent-room, nodes-some t));
+          above = λ k h. above-all k h (compared k (nodes-of t - 1));
           left-below = λ k h s. a .parents k (omega arith) (omega arith) s .left-below;
           right-below = λ k h s. a .parents k (omega arith) (omega arith) s .right-below;
           left-parent =
@@ -32,6 +35,13 @@ planted t A room = go (copied t 0 A) (copied-room t 0 _ A room) (copied-added t 
           own-gate = λ once j k b d. a .own-gate once j k (omega arith) (omega arith) (omega arith) (omega arith);
           inside = λ k h. a .inside k (omega arith) (omega arith);
         }
+      where
+        above-all : (k : ℕ) → k < nodes-of t → (k < nodes-of t - 1) ⊎ (k ≡ nodes-of t - 1) ⊎ (nodes-of t - 1 < k) → k < parent (rooted (nodes-of t) B) k
+        above-all k h (inl l) =
+            omega (arith, getD-set-other (B .parents) (nodes-of t - 1) k (nodes-of t) 0 (omega arith), a .above k (omega arith) (omega arith))
+        above-all k h (inr (inl e)) =
+            rw (e, getD-set-same (B .parents) (nodes-of t - 1) (nodes-of t) 0 (omega (arith, there .parent-room, nodes-some t))) (omega (arith, nodes-some t))
+        above-all k h (inr (inr l)) = absurd (omega arith)
 
 -- a tree copied, with its top's parent written
 planted-is : (t : Tree) {r : ℕ} {A B : Plot} {ps : List ℕ} → Room A (nodes-of t) → r ≡ nodes-of t → B ≡ copied t 0 A → ps ≡ set (B .parents) (r - 1) r

@@ -36,10 +36,11 @@ pub record Inside (s t : Tree) : Type 0 where
   pub counts : (g : ℕ) → count s g ≤ count t g
   pub sizes : size s ≤ size t
 
--- The arrays' first c nodes are the tree t, whose top is the last of them. Children have smaller numbers than their parent, whose number stands in `parents`; the top's parent is a number that no node has. Where no gate stands twice in t, a gate stands at one series node.
+-- The arrays' first c nodes are the tree t, whose top is the last of them. Children have smaller numbers than their parent, whose number stands in `parents`; every node's parent has a greater number, the top's one that no node has. Where no gate stands twice in t, a gate stands at one series node.
 pub record Planted (t : NodeTree) (c : ℕ) (A : Plot) : Type 0 where
   pub top : tree-of (A .nodes) (c - 1) ≡ t
   pub top-parent : parent A (c - 1) ≡ c
+  pub above : (k : ℕ) → k < c → k < parent A k
   pub left-below : (k : ℕ) → k < c → 0 < kind (A .nodes) k → left (A .nodes) k < k
   pub right-below : (k : ℕ) → k < c → 0 < kind (A .nodes) k → right (A .nodes) k < k
   pub left-parent : (k : ℕ) → k < c → 0 < kind (A .nodes) k → parent A (left (A .nodes) k) ≡ k
