@@ -1,2 +1,4 @@
 pub mod Held
 pub mod Loading
+pub mod Refused
+pub mod HeldFile

@@ -33,9 +33,9 @@ use Rattle.gains.proofs.Activities.{input-is, held-activity}
 use Rattle.gains.proofs.Earnings.{block-earnable}
 use Rattle.loading.specs.Loads.{block-held}
 use Rattle.loading.proofs.Held.{gates-are, limits, lent, some-gate, delay-is, delay-most, wire-delay-most}
-use Rattle.resizing.specs.HeldFile.{HeldFile}
+use Rattle.loading.specs.HeldFile.{HeldFile}
 use Rattle.resizing.specs.Slowed.{Lasting, Lasts}
-use Rattle.resizing.proofs.Refused.{wire-room}
+use Rattle.loading.proofs.Refused.{wire-room}
 
 -- so many steps of at most the greatest width
 widths-most : (ss : List Step) → ((j : ℕ) (d : Step) → j < length ss → StepLimits (getD ss j d)) → widths ss ≤ length ss * max-width

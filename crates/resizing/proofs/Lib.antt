@@ -1,5 +1,3 @@
-pub mod Refused
 pub mod SlacksLaws
 pub mod Slowing
 pub mod JudgeLaws
-pub mod Loaded

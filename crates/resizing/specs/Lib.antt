@@ -1,2 +1,1 @@
-pub mod HeldFile
 pub mod Slowed

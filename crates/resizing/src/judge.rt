@@ -12,7 +12,7 @@ ghost use Prim.Native.Nat.{ℕ, _≤_};
 ghost use lib.ListN.{length};
 ghost use Rattle.model.specs.Answer.{AnswersJudge, judge-answer};
 ghost use Rattle.blockfile.specs.Held.{gate-arrays, wire-arrays};
-ghost use Rattle.resizing.specs.HeldFile.{HeldFile};
+ghost use Rattle.loading.specs.HeldFile.{HeldFile};
 
 // The verdict on the first n increases for a well-formed file's block, which is in the arrays: refusals 13 and 14, or the saving.
 fn judge_held(

@@ -1,8 +1,8 @@
 -- `resizing::judge::judge` meets its contract: the refusals 1 to 9 as loading finds them, then room, then the verdict. Assumes nothing.
 use borrow.Author.Needs.{needs}
 use Rattle.blockfile.specs.Held.{gate-arrays, wire-arrays}
-use Rattle.resizing.proofs.Refused.{passed-on}
-use Rattle.resizing.proofs.Loaded.{held-file, too-short}
+use Rattle.loading.proofs.Refused.{passed-on}
+use Rattle.loading.proofs.HeldFile.{held-file, too-short}
 use Rattle.resizing.proofs.judge.judge.Statement.{statement}
 use Rattle.resizing.proofs.judge.judge.Tie as tie
 

@@ -2,7 +2,7 @@
 use borrow.Author.Needs.{needs}
 use Rattle.model.specs.Limits.{max-gates}
 use Rattle.blockfile.specs.Held.{gate-arrays, wire-arrays}
-use Rattle.resizing.proofs.Refused.{passed-on, wire-room, all-of}
+use Rattle.loading.proofs.Refused.{passed-on, wire-room, all-of}
 use Rattle.resizing.proofs.SlacksLaws.{slackable, slacks-refused, slacks-given}
 use Rattle.resizing.proofs.slacks.slacks.Statement.{statement}
 use Rattle.resizing.proofs.slacks.slacks.Tie as tie

@@ -12,9 +12,9 @@ use Rattle.model.specs.Answer.{refusal, Outcome, Line, fits, Judged, well-forme
 use Rattle.blockfile.specs.Held.{GateArrays, WireArrays}
 use Rattle.network.specs.Wires.{Wired}
 use Rattle.network.specs.Order.{Order}
 use Rattle.loading.specs.Loads.{block-held}
 use Rattle.loading.proofs.Held.{gates-are}
-use Rattle.resizing.specs.HeldFile.{HeldFile}
+use Rattle.loading.specs.HeldFile.{HeldFile}
 
 module _ (file : List ℕ) (n m arrival deadline activity : ℕ) (G : GateArrays) (W : WireArrays) (order : List ℕ) where
   abbrev B : Block
