@@ -1,0 +1,53 @@
+-- What planting the tree of a block asks, and what it leaves in the node arrays.
+use mathlib.Core.Path.{_≡_}
+use mathlib.Core.List.{List}
+use Prim.Native.Nat.{ℕ, _+_, _≤_, _<_}
+use lib.ListN.{length}
+use Rattle.model.specs.Limits.{max-wires}
+use Rattle.model.specs.Block.{Block}
+use Rattle.model.specs.Part.{SeriesParallel}
+use Rattle.model.specs.Refusal.{SoundNetwork}
+use Rattle.model.proofs.Limited.{BlockLimits}
+use Rattle.parts.specs.Nodes.{Tree}
+use Rattle.parts.specs.Wired.{Wired}
+use Rattle.optimum.specs.BlockTree.{block-tree}
+use Rattle.planting.specs.Copy.{Plot}
+use Rattle.planting.specs.Planted.{as-tree, Planted}
+
+-- nodes of a block's tree, at most: a node less than two a wire, and four for the first and the last gate
+abbrev pub max-nodes : ℕ
+max-nodes = max-wires + max-wires + 3
+
+-- B is within the limits of a file, its network is sound, and its m wires stand in the arrays.
+pub record Given (B : Block) (n m : ℕ) (sources targets wire-delays : List ℕ) : Type 0 where
+  pub limits : BlockLimits B
+  pub sound : SoundNetwork B
+  pub wired : Wired B n m sources targets wire-delays
+
+-- the arrays have a place for each of m wires
+pub record WiresLong (m : ℕ) (sources targets wire-delays : List ℕ) : Type 0 where
+  pub sources-long : m ≤ length sources
+  pub targets-long : m ≤ length targets
+  pub delays-long : m ≤ length wire-delays
+
+-- the node arrays have room for the tree of any block
+pub record NodesLong (A : Plot) : Type 0 where
+  pub kinds-long : max-nodes ≤ length (A .nodes .kinds)
+  pub lefts-long : max-nodes ≤ length (A .nodes .lefts)
+  pub gates-long : max-nodes ≤ length (A .nodes .gates)
+  pub rights-long : max-nodes ≤ length (A .nodes .rights)
+  pub parents-long : max-nodes ≤ length (A .parents)
+
+-- The block is series-parallel, and its tree stands in the first c nodes of the arrays.
+pub record PlantedBlock (B : Block) (c : ℕ) (A : Plot) : Type 0 where
+  pub fits : SeriesParallel B
+  pub tree : Tree
+  pub is-tree : as-tree tree ≡ block-tree B fits
+  pub planted : Planted tree c A
+  pub some : 0 < c
+  pub few : c ≤ max-nodes
+
+-- No node exactly where the block is not series-parallel; else its tree.
+pub record PlantedOrNot (B : Block) (c : ℕ) (A : Plot) : Type 0 where
+  pub none : c ≡ 0 → ¬ (SeriesParallel B)
+  pub tree : 0 < c → PlantedBlock B c A
