@@ -12,6 +12,7 @@ use Rattle.lists.proofs.Compare.{compared}
 use Rattle.model.specs.Block.{Block}
 use Rattle.model.specs.File.{Reading, found, refused}
 use Rattle.model.specs.Refusal.{OnLoop, EndFault, WellFormed, IllFormed, unread, loop, ends}
+use Rattle.model.specs.Layout.{GivesLayout, laid, AnswersLayout}
 use Rattle.model.specs.Answer.{Outcome, Line, fits, passes, At, Judged, ill-formed, well-formed, Gives, Slices, GivesCurve, curve, GivesBest, best, AnswersSlacks, AnswersJudge, AnswersCurve, AnswersBest}
 use Rattle.model.proofs.Best.{best-unique}
 use Rattle.model.proofs.Curve.{curve-unique}
@@ -112,3 +113,11 @@ pub answers-best-unique : (file lent : List ℕ) → Unique (AnswersBest file le
 answers-best-unique file lent =
     judged-unique
     (λ (B : Block). line-unique at-unique (line-unique at-unique (line-unique at-unique gives-best-unique)))
+
+gives-layout-unique : {B : Block} {lent : List ℕ} → Unique (GivesLayout B lent)
+gives-layout-unique {B} o q (laid x sp a e) (laid y sq b f) = let same = best-unique B x y a b in cc
+
+pub answers-layout-unique : (file lent : List ℕ) → Unique (AnswersLayout file lent)
+answers-layout-unique file lent =
+    judged-unique
+    (λ (B : Block). line-unique at-unique (line-unique at-unique (line-unique at-unique gives-layout-unique)))

@@ -150,13 +150,17 @@ pub data GivesCurve (B : Block) (lent : Slices) (o : Outcome Slices) : Type 0 wh
       o
       → GivesCurve B lent o
 
+-- the lines of the curve from 11 on, of a well-formed block: 11 is "not series-parallel"
+abbrev pub CurveLines : Block → Slices → Outcome Slices → Type 0
+CurveLines B lent = Line lent 11 (At 0 (¬ (SeriesParallel B))) (GivesCurve B lent)
+
 -- The curve, to two lent slices of at least 512 elements each. The block's own deadline plays no part.
 abbrev pub AnswersCurve : List ℕ → Slices → Outcome Slices → Type 0
 AnswersCurve file lent =
     Judged file lent
     (λ (B : Block).
     Line lent 10 (Shorter (lent .for-widths) max-pairs)
-    (Line lent 10 (Shorter (lent .for-gains) max-pairs) (Line lent 11 (At 0 (¬ (SeriesParallel B))) (GivesCurve B lent))))
+    (Line lent 10 (Shorter (lent .for-gains) max-pairs) (CurveLines B lent)))
 
 -- the best list of the block in front of the slice
 pub data GivesBest (B : Block) (lent : List ℕ) (o : Outcome (List ℕ)) : Type 0 where
@@ -165,11 +169,13 @@ pub data GivesBest (B : Block) (lent : List ℕ) (o : Outcome (List ℕ)) : Type
       → Gives (saving B x ∷ gate-count B ∷ []) (over x lent) o
       → GivesBest B lent o
 
--- The best increases (demand 3): 11 is "not series-parallel", 12 is "late".
+-- the lines of the best increases from 11 on, of a well-formed block: 11 is "not series-parallel", 12 is "late"
+abbrev pub BestLines : Block → List ℕ → Outcome (List ℕ) → Type 0
+BestLines B lent =
+    Line lent 11 (At 0 (¬ (SeriesParallel B)))
+    (Line lent 12 (At 0 (SeriesParallel B × (spare B <ℤ pos 0))) (GivesBest B lent))
+
+-- The best increases (demand 3).
 abbrev pub AnswersBest : List ℕ → List ℕ → Outcome (List ℕ) → Type 0
 AnswersBest file lent =
-    Judged file lent
-    (λ (B : Block).
-    Line lent 10 (Shorter lent (gate-count B))
-    (Line lent 11 (At 0 (¬ (SeriesParallel B)))
-    (Line lent 12 (At 0 (SeriesParallel B × (spare B <ℤ pos 0))) (GivesBest B lent))))
+    Judged file lent (λ (B : Block). Line lent 10 (Shorter lent (gate-count B)) (BestLines B lent))

@@ -15,4 +15,5 @@ pub mod File
 pub mod Refusal
 pub mod Answer
 pub mod Printout
+pub mod Layout
 pub mod Arrays

@@ -22,7 +22,7 @@ use Rattle.model.specs.Part.{SeriesParallel}
 use Rattle.model.specs.Slack.{start, spare}
 use Rattle.model.specs.File.{Reading, found, refused, read-block}
 use Rattle.model.specs.Refusal.{unread}
-use Rattle.model.specs.Answer.{Outcome, Line, fits, passes, At, Judged, ill-formed, well-formed, Gives, Exceeds, PathNotInTime, Slices, GivesCurve, curve, GivesBest, best}
+use Rattle.model.specs.Answer.{Outcome, Line, fits, passes, At, Judged, ill-formed, well-formed, Gives, Exceeds, PathNotInTime, Slices, curve, CurveLines, best, BestLines}
 use Rattle.model.proofs.Limited.{read-limits}
 use Rattle.model.proofs.Slack.{start-is, late-is}
 use Rattle.optimum.specs.Tree.{Tree}
@@ -93,13 +93,13 @@ module _ (file : List ℕ) (B : Block) (end : ℕ) (reads : read-block file ≡ 
   best-list t s e l = subst (λ u. Best B (increases-by B u)) e (Optimum.best B s (network .below) falls (start-most s l))
 
   best-line : (lent : List ℕ) (r : Option Tree) → Found B r
-      → Line lent 11 (At 0 (¬ (SeriesParallel B))) (Line lent 12 (At 0 (SeriesParallel B × (spare B <ℤ pos 0))) (GivesBest B lent)) (best-by B lent r)
+      → BestLines B lent (best-by B lent r)
   best-line lent none f = fits 0 (refl, f) refl
   best-line lent (some t) (s, e) =
       passes (λ p n. n .1 s) (line-by _ _ (late s _ refl) (λ l. best (increases-by B t) s (best-list t s e l) refl))
 
   curve-line : (lent : Slices) (r : Option Tree) → Found B r
-      → Line lent 11 (At 0 (¬ (SeriesParallel B))) (GivesCurve B lent) (curve-by B lent r)
+      → CurveLines B lent (curve-by B lent r)
   curve-line lent none f = fits 0 (refl, f) refl
   curve-line lent (some t) (s, e) =
       passes (λ p n. n .1 s)
