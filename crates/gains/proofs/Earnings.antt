@@ -22,7 +22,7 @@ use Rattle.model.specs.Arrays.{step-place, step-at}
 use Rattle.model.proofs.Limited.{BlockLimits}
 use Rattle.gains.specs.Steps.{steps-in, StepsLent, Held}
 use Rattle.gains.specs.Activities.{max-input}
-use Rattle.gains.specs.Savings.{earned, most-of-step, Earnable, ListSaving}
+use Rattle.gains.specs.Savings.{earned, most-of-step, most-of-gate, Earnable, ListSaving}
 use Rattle.gains.proofs.Sums.{sum-more, sum-constant, sum-stretches}
 use Rattle.gains.proofs.Held.{held-count, held-steps, held-lent}
 use Rattle.gains.proofs.Sources.{input-most}
@@ -147,9 +147,11 @@ module _ (n : ℕ) (counts step-widths drops inputs increases : List ℕ) where
       ∙ ap (λ (k : ℕ). sum k (gain B g)) (sym (same g h)))
       ∙ ap (λ (k : ℕ). sum k (λ (g : ℕ). sum (getD x g 0) (gain B g))) (sym (held-count B n counts step-widths drops held))
 
-  pub list-saving : (r : ℕ) → r ≡ earned-in n counts step-widths drops inputs increases → ListSaving n counts step-widths drops inputs increases r
-  list-saving r e =
+  pub list-saving : (r : ℕ) → r ≡ earned-in n counts step-widths drops inputs increases → r ≤ n * most-of-gate
+      → ListSaving n counts step-widths drops inputs increases r
+  list-saving r e small =
       record {
+        small = small;
         of-front = λ B held inputs-are. e ∙ saving-is B (take n increases) held inputs-are (λ (g : ℕ) (h : g < n). getD-take n increases g 0 h);
         of-all = λ B held inputs-are. e ∙ saving-is B increases held inputs-are (λ (g : ℕ) (h : g < n). refl);
       }

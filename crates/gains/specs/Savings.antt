@@ -37,5 +37,6 @@ pub record Earnable (n : ℕ) (counts step-widths drops inputs increases : List 
 
 -- r is the saving of the increases, for every block whose gates have these steps and these input activities.
 pub record ListSaving (n : ℕ) (counts step-widths drops inputs increases : List ℕ) (r : ℕ) : Type 0 where
+  pub small : r ≤ n * most-of-gate
   pub of-front : (B : Block) → Held B n counts step-widths drops → ((g : ℕ) → g < n → getD inputs g 0 ≡ input-activity B g) → r ≡ saving B (take n increases)
   pub of-all : (B : Block) → Held B n counts step-widths drops → ((g : ℕ) → g < n → getD inputs g 0 ≡ input-activity B g) → r ≡ saving B increases

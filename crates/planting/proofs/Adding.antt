@@ -3,13 +3,14 @@
 use mathlib.Core.Path.{_≡_, refl, sym, _∙_, ap}
 use mathlib.Core.Logic.{_⊎_, inl, inr}
 use Prim.Native.Nat.{ℕ, _+_, _-_, _≤_, _<_}
+use native.Mathlib.Nat.{le-max-left, le-max-right}
 use native.Mathlib.Omega.{arith}
 use lib.ListN.{set, length-set}
 use lib.Seq.{getD-set-same, getD-set-other}
 use Rattle.lists.proofs.Compare.{le-or-lt, compared}
 use Rattle.parts.specs.Nodes.{leaf, chain, beside, Nodes, node-tree, tree-of, Tree as NodeTree}
 use Rattle.parts.proofs.Nodes.{tree-at, tree-wire, SameNode, grown}
-use Rattle.optimum.specs.Tree.{Tree, count, Once, size}
+use Rattle.optimum.specs.Tree.{Tree, count, Once, size, zeros, longest}
 use Rattle.optimum.proofs.Count.{is-self}
 use Rattle.planting.specs.Copy.{Plot, nodes-of, with-leaf, with-parent, copied, Room}
 use Rattle.planting.specs.Planted.{as-tree, part, kind, left, gate, right, parent, Inside}
@@ -40,10 +41,15 @@ nodes-some (chain P m Q) = omega arith
 nodes-some (beside P Q) = omega arith
 
 inside-is : {s t : Tree} → s ≡ t → Inside s t
-inside-is e = rw e (record { counts = λ g. omega arith; sizes = omega arith })
+inside-is e = rw e (record { counts = λ g. omega arith; sizes = omega arith; lasts = λ d. omega arith })
 
 inside-in : {s t u : Tree} → Inside s t → Inside t u → Inside s u
-inside-in h k = record { counts = λ g. omega (arith, h .counts g, k .counts g); sizes = omega (arith, h .sizes, k .sizes) }
+inside-in h k =
+    record {
+      counts = λ g. omega (arith, h .counts g, k .counts g);
+      sizes = omega (arith, h .sizes, k .sizes);
+      lasts = λ d. omega (arith, h .lasts d, k .lasts d);
+    }
 
 same-then : {L M N : Nodes} {k : ℕ} → SameNode L M k → SameNode M N k → SameNode L N k
 same-then a b = record { kind = b .kind ∙ a .kind; left = b .left ∙ a .left; gate = b .gate ∙ a .gate; right = b .right ∙ a .right }
@@ -86,6 +92,8 @@ record Joint (x m : ℕ) (P Q t : NodeTree) : Type 0 where
   counts : (g : ℕ) → count (as-tree P) g + count (as-tree Q) g ≤ count (as-tree t) g
   own : x ≡ 1 → count (as-tree P) m + 1 + count (as-tree Q) m ≤ count (as-tree t) m
   sizes : size (as-tree P) + size (as-tree Q) ≤ size (as-tree t)
+  left-lasts : (d : ℕ → ℕ) → longest d (as-tree P) (zeros (as-tree P)) ≤ longest d (as-tree t) (zeros (as-tree t))
+  right-lasts : (d : ℕ → ℕ) → longest d (as-tree Q) (zeros (as-tree Q)) ≤ longest d (as-tree t) (zeros (as-tree t))
 
 joint-chain : (P : NodeTree) (m : ℕ) (Q : NodeTree) → Joint 1 m P Q (chain P m Q)
 joint-chain P m Q =
@@ -96,6 +104,8 @@ joint-chain P m Q =
       counts = λ g. omega arith;
       own = λ e. omega (arith, is-self m);
       sizes = omega arith;
+      left-lasts = λ d. omega arith;
+      right-lasts = λ d. omega arith;
     }
 
 joint-beside : (P Q : NodeTree) → Joint 2 0 P Q (beside P Q)
@@ -107,6 +117,8 @@ joint-beside P Q =
       counts = λ g. omega arith;
       own = λ e. absurd (omega arith);
       sizes = omega arith;
+      left-lasts = λ d. le-max-left _ _;
+      right-lasts = λ d. le-max-right _ _;
     }
 
 -- the gate of a series node is one of the tree
@@ -204,10 +216,10 @@ module _
     right-tree = grown (C .nodes) (D .nodes) r before-top
 
     left-inside : Inside (as-tree P) (as-tree t)
-    left-inside = record { counts = λ g. omega (arith, J .counts g); sizes = omega (arith, J .sizes) }
+    left-inside = record { counts = λ g. omega (arith, J .counts g); sizes = omega (arith, J .sizes); lasts = J .left-lasts }
 
     right-inside : Inside (as-tree Q) (as-tree t)
-    right-inside = record { counts = λ g. omega (arith, J .counts g); sizes = omega (arith, J .sizes) }
+    right-inside = record { counts = λ g. omega (arith, J .counts g); sizes = omega (arith, J .sizes); lasts = J .right-lasts }
 
     top-is : tree-of (D .nodes) r ≡ t
     top-is =

@@ -3,7 +3,7 @@ use mathlib.Core.Path.{_≡_}
 use Prim.Native.Nat.{ℕ, _-_, _≤_, _<_}
 use lib.ListN.{getD}
 use Rattle.parts.specs.Nodes.{leaf, chain, beside, Nodes, tree-of, Tree as NodeTree}
-use Rattle.optimum.specs.Tree.{Tree, wire, series, parallel, count, Once, size}
+use Rattle.optimum.specs.Tree.{Tree, wire, series, parallel, count, Once, size, zeros, longest}
 use Rattle.planting.specs.Copy.{Plot}
 
 -- the tree of a node as a tree of parts
@@ -31,10 +31,11 @@ right N k = getD (N .rights) k 0
 abbrev pub parent : Plot → ℕ → ℕ
 parent A k = getD (A .parents) k 0
 
--- The gates of s are gates of t.
+-- The gates of s are gates of t, and s lasts no longer.
 pub record Inside (s t : Tree) : Type 0 where
   pub counts : (g : ℕ) → count s g ≤ count t g
   pub sizes : size s ≤ size t
+  pub lasts : (d : ℕ → ℕ) → longest d s (zeros s) ≤ longest d t (zeros t)
 
 -- The arrays' first c nodes are the tree t, whose top is the last of them. Children have smaller numbers than their parent, whose number stands in `parents`; every node's parent has a greater number, the top's one that no node has. Where no gate stands twice in t, a gate stands at one series node.
 pub record Planted (t : NodeTree) (c : ℕ) (A : Plot) : Type 0 where

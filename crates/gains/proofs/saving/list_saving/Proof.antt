@@ -46,7 +46,7 @@ loop-again : tie.Need-loop-again Inv-loop μ-loop
 loop-again c = (omega arith, earned-more (c .before .before .before .before .before .before .before .before .before .before .args .n) (c .before .before .before .before .before .before .before .before .before .before .args .counts .now) (c .before .before .before .before .before .before .before .before .before .before .args .step-widths .now) (c .before .before .before .before .before .before .before .before .before .before .args .drops .now) (c .before .before .before .before .before .before .before .before .before .before .args .inputs .now) (c .before .before .before .before .before .before .before .before .before .before .args .increases .now) (c .before .before .before .before .loop .g) (c .before .before .before .before .loop .saving) (c .gate-saving .result) (c .before .before .before .before .loop .inv .1) (c .gate-saving .ensures .is), omega (arith, c .gate-saving .ensures .small, c .before .before .before .before .loop .inv .2))
 
 returns : tie.Need-returns Inv-loop μ-loop
-returns c = let e : c .before .loop .g ≡ c .before .before .before .before .before .before .before .args .n = omega (arith, c .before .loop .inv .0) in list-saving (c .before .before .before .before .before .before .before .args .n) (c .before .before .before .before .before .before .before .args .counts .now) (c .before .before .before .before .before .before .before .args .step-widths .now) (c .before .before .before .before .before .before .before .args .drops .now) (c .before .before .before .before .before .before .before .args .inputs .now) (c .before .before .before .before .before .before .before .args .increases .now) (c .before .loop .saving) (rw e at (c .before .loop .inv .1))
+returns c = let e : c .before .loop .g ≡ c .before .before .before .before .before .before .before .args .n = omega (arith, c .before .loop .inv .0) in list-saving (c .before .before .before .before .before .before .before .args .n) (c .before .before .before .before .before .before .before .args .counts .now) (c .before .before .before .before .before .before .before .args .step-widths .now) (c .before .before .before .before .before .before .before .args .drops .now) (c .before .before .before .before .before .before .before .args .inputs .now) (c .before .before .before .before .before .before .before .args .increases .now) (c .before .loop .saving) (rw e at (c .before .loop .inv .1)) (rw e at (c .before .loop .inv .2))
 
 pub list-saving-spec : {M : Type 1} → statement M
 list-saving-spec = tie.close (tie.spec Inv-loop μ-loop loop-holds mul-gate-saving shared-slice-read-gate-saving mul-gate-saving-2 shared-slice-read-gate-saving-2 gate-saving-requires add-saving add-g loop-less loop-again returns)
