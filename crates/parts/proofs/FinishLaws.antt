@@ -111,8 +111,15 @@ module _ {N : Block} {n k c i : ℕ} {A B : Arrays} (net : Network N) (begin : G
         weighed = subst₂ (λ x y. Weighed (N .wires) x y (tree-of (B .tree) (getD (B .tops) i 0))) (sym (ends .0) ∙ only-first net (going .reducing) one) (sym (ends .1) ∙ only-last net (going .reducing) one) (going .formed .weighed i inside (ol .live inside));
         below = going .formed .tops-below i inside;
         children = going .formed .children;
+        kinds-long = omega (arith, few, end .ready .room .kind-room);
+        lefts-long = omega (arith, few, end .ready .room .left-room);
+        gates-long = omega (arith, few, end .ready .room .gate-room);
+        rights-long = omega (arith, few, end .ready .room .right-room);
       }
     where
+      few : c ≤ k + k
+      few = omega (arith, end .ready .budget)
+
       inside : i < k
       inside = let w = ol .within in omega arith
 
