@@ -2,17 +2,22 @@
 -- Assumes nothing.
 use mathlib.Core.Path.{_≡_, refl, sym, ap, subst}
 use mathlib.Core.Logic.{_≢_, _⊎_, inl, inr}
+use mathlib.Core.Bool.{Bool, true, false, cond}
 use mathlib.Core.List.{List, [], _∷_, List·Memᴰ·cases-cons, List·Memᴰ·not-nil}
-use Prim.Native.Nat.{ℕ, suc, _<_}
+use Prim.Native.Nat.{ℕ, suc, _-_, _≤_, _<_}
 use native.Mathlib.Omega.{arith}
+use lib.Dec.{ltb}
 use lib.ListN.{length, getD}
 use Rattle.lists.proofs.Compare.{compared}
-use Rattle.model.specs.Block.{Wire, Block, gate-count, first, last, Stands, Joined}
+use Rattle.model.specs.Limits.{max-activity, max-drop}
+use Rattle.model.specs.Block.{Step, Wire, Block, gate, gate-count, first, last, Stands, Joined}
+use Rattle.model.specs.Gain.{drop-of}
 use Rattle.model.specs.Refusal.{SoundNetwork, into-first, out-of-last}
-use Rattle.model.proofs.Limited.{BlockLimits}
+use Rattle.model.proofs.Limited.{StepLimits, BlockLimits}
 use Rattle.model.proofs.Slack.{entered, left}
 use Rattle.model.proofs.Turned.{stands-unturned}
-use Rattle.optimum.specs.BlockTree.{WiresJoinGates, NoneTwice}
+use Rattle.optimum.specs.Gates.{first-drop, Descending}
+use Rattle.optimum.specs.BlockTree.{WiresJoinGates, NoneTwice, Ranges}
 use Rattle.parts.specs.Network.{Network, wire-at}
 
 -- a wire that stands in a list has a place there
@@ -40,6 +45,43 @@ none-twice (v ∷ ws) apart = (
       apart 0 (suc (r .0)) v (omega arith) (omega arith) (ap (λ (u : Wire). u .source) (r .2)) (ap (λ (u : Wire). u .target) (r .2)),
   none-twice ws (λ (i j : ℕ) (d : Wire) (h : i < j) (l : j < length ws). apart (suc i) (suc j) d (omega arith) (omega arith)),
 )
+
+-- each step drops less than the step before it
+abbrev Falling : List Step → Type 0
+Falling ss = (j : ℕ) (d : Step) → suc j < length ss → getD ss (suc j) d .drop < getD ss j d .drop
+
+falling-descends : (ss : List Step) → Falling ss → Descending ss
+falling-descends [] falls = tt
+falling-descends (s ∷ ss) falls =
+    (next ss falls, falling-descends ss (λ (j : ℕ) (d : Step) (h : suc j < length ss). falls (suc j) d (omega arith)))
+  where
+    next : (rest : List Step) → Falling (s ∷ rest) → first-drop rest ≤ s .drop
+    next [] f = omega arith
+    next (r ∷ rest) f = omega (arith, f 0 r (omega arith))
+
+-- a drop is that of a step, or 0
+drop-most : (ss : List Step) → ((j : ℕ) (d : Step) → j < length ss → StepLimits (getD ss j d)) → (k : ℕ) → drop-of ss k ≤ max-drop
+unfolding drop-of
+drop-most [] within k = omega arith
+drop-most (s ∷ ss) within k =
+    go (ltb k (s .width)) (drop-most ss (λ (j : ℕ) (d : Step) (h : j < length ss). within (suc j) d (omega arith)) (k - s .width))
+  where
+    go : (b : Bool) → drop-of ss (k - s .width) ≤ max-drop → cond b (s .drop) (drop-of ss (k - s .width)) ≤ max-drop
+    go true rest = within 0 s (omega arith) .drop-most
+    go false rest = rest
+
+-- What the limits alone give.
+module _ (B : Block) (limits : BlockLimits B) where
+  pub descending : (g : ℕ) → Descending (gate B g .steps)
+  descending g = falling-descends (gate B g .steps) (limits .gate-limits g .drops-fall)
+
+  pub ranges : Ranges B max-activity max-drop
+  ranges =
+      record {
+        input = limits .activity-most;
+        nets = λ (g : ℕ). limits .gate-limits g .activity-most;
+        drops = λ (g : ℕ). drop-most (gate B g .steps) (limits .gate-limits g .step-limits);
+      }
 
 module _ (B : Block) (limits : BlockLimits B) (sound : SoundNetwork B) where
   pub join : WiresJoinGates B

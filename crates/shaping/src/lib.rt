@@ -1,1 +1,2 @@
-// What a well-formed file's block is to the reduction and to the theorem.
+// What a well-formed file's block is to the reduction and to the theorem, and its tree planted in node arrays.
+pub mod plant;

@@ -1,0 +1,72 @@
+// The tree of a block's parts, planted in node arrays.
+use parts::Answer;
+use parts::reduce_network;
+use planting::plant;
+use planting::plant_lone;
+ghost use Rattle.model.specs.Block.{Block};
+ghost use Rattle.planting.specs.Copy.{plot};
+ghost use Rattle.shaping.specs.PlantedBlock.{Given, WiresLong, NodesLong, PlantedOrNot};
+
+// The tree of a block of n gates and m wires, which stand in the arrays, planted in the node arrays. Answers the number of nodes, whose last is the top; 0 where the block is not series-parallel.
+// Public for the crates above only: they have shown that the wires are those of a sound network.
+pub fn plant_block(
+    n: usize,
+    m: usize,
+    sources: &[u32],
+    targets: &[u32],
+    wire_delays: &[u32],
+    kinds: &mut [u32],
+    lefts: &mut [u32],
+    gates: &mut [u32],
+    rights: &mut [u32],
+    parents: &mut [u32],
+) -> usize
+    requires { ⌜ ((B : Block) × Given B n m (now sources) (now targets) (now «wire_delays»)) ⌝ }
+    requires { ⌜ WiresLong m (now sources) (now targets) (now «wire_delays») ⌝ }
+    requires { ⌜ NodesLong (plot (now kinds) (now lefts) (now gates) (now rights) (now parents)) ⌝ }
+    ensures { λ r. ⌜ ((B : Block) → Given B n m (now (sources .entry)) (now (targets .entry)) (now («wire_delays» .entry)) → PlantedOrNot B r (plot (now (kinds .exit)) (now (lefts .exit)) (now (gates .exit)) (now (rights .exit)) (now (parents .exit)))) ⌝ }
+{
+    let mut live = [0u32; 256];
+    let mut target = [0u32; 256];
+    let mut top = [0u32; 256];
+    let mut kind = [0u32; 512];
+    let mut left = [0u32; 512];
+    let mut gate = [0u32; 512];
+    let mut right = [0u32; 512];
+    let mut ins = [0u32; 64];
+    let mut outs = [0u32; 64];
+    let answer = reduce_network(
+        sources,
+        targets,
+        wire_delays,
+        &mut live,
+        &mut target,
+        &mut top,
+        &mut kind,
+        &mut left,
+        &mut gate,
+        &mut right,
+        &mut ins,
+        &mut outs,
+        m,
+        n,
+    );
+    match answer {
+        Answer::Unfit => 0,
+        Answer::Lone => plant_lone(0, kinds, lefts, gates, rights, parents),
+        Answer::Root(root, _) => plant(
+            root,
+            0,
+            (n - 1) as u32,
+            &kind,
+            &left,
+            &gate,
+            &right,
+            kinds,
+            lefts,
+            gates,
+            rights,
+            parents,
+        ),
+    }
+}
