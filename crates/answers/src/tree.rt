@@ -1,0 +1,182 @@
+// The curve and the best increases of a block whose tree stands in node arrays.
+use curve::count::count_off;
+use gains::saving::list_saving;
+use network::marking::at;
+use sizing::best::best_within;
+use sizing::best::start;
+use sizing::curve::node_curve;
+ghost use mathlib.Core.Path.{_≡_};
+ghost use Prim.Native.Nat.{ℕ, _≤_, _<_};
+ghost use lib.ListN.{length, getD};
+ghost use Rattle.lists.specs.Sum.{sum};
+ghost use Rattle.model.specs.Limits.{max-gates, max-steps, max-pairs, max-time};
+ghost use Rattle.model.specs.Block.{Block};
+ghost use Rattle.answers.specs.TreeHeld.{tree-arrays, TreeHeld, CurveFound, IncreasesFound};
+
+// What is found of a curve, besides its pairs: the saving at start, and how many pairs there are.
+pub struct TreeCurve {
+    pub saving: u64,
+    pub pairs: usize,
+}
+
+// How many steps n gates have together.
+fn step_count(n: usize, counts: &[u32]) -> usize
+    requires { ⌜ (n ≤ max-gates) × (n ≤ length (now counts)) × ((g : ℕ) → g < n → getD (now counts) g 0 ≤ max-steps) ⌝ }
+    ensures { λ r. ⌜ r ≡ sum n (λ (g : ℕ). getD (now (counts .entry)) g 0) ⌝ }
+{
+    let mut steps: usize = 0;
+    let mut g: usize = 0;
+    while g < n {
+        steps += at(counts, g);
+        g += 1;
+    }
+    steps
+}
+
+// The curve of the block: its pairs to the front of the two slices. The increases are scratch.
+pub fn tree_curve(
+    n: u32,
+    kinds: &[u32],
+    lefts: &[u32],
+    gates: &[u32],
+    rights: &[u32],
+    parents: &[u32],
+    counts: &[u32],
+    step_widths: &[u32],
+    drops: &[u32],
+    inputs: &[u32],
+    delays: &[u32],
+    increases: &mut [u32],
+    pair_widths: &mut [u32],
+    pair_gains: &mut [u32],
+) -> TreeCurve
+    requires { ⌜ ((B : Block) × TreeHeld B n (tree-arrays (now kinds) (now lefts) (now gates) (now rights) (now parents) (now counts) (now «step_widths») (now drops) (now inputs) (now delays))) ⌝ }
+    requires { ⌜ length (now increases) ≡ n ⌝ }
+    requires { ⌜ (max-pairs ≤ length (now «pair_widths»)) × (max-pairs ≤ length (now «pair_gains»)) ⌝ }
+    ensures { λ r. ⌜ ((B : Block) (held : TreeHeld B n (tree-arrays (now (kinds .entry)) (now (lefts .entry)) (now (gates .entry)) (now (rights .entry)) (now (parents .entry)) (now (counts .entry)) (now («step_widths» .entry)) (now (drops .entry)) (now (inputs .entry)) (now (delays .entry)))) → CurveFound B (held .fits) (now («pair_widths» .entry)) (now («pair_gains» .entry)) (now («pair_widths» .exit)) (now («pair_gains» .exit)) r) ⌝ }
+{
+    let mut lengths = [0u32; 515];
+    let mut gate_widths = [0u32; 64];
+    let mut gate_gains = [0u64; 64];
+    let mut gate_ranks = [0u32; 64];
+    let mut widths = [0u32; 515];
+    let mut gains = [0u64; 515];
+    let mut ranks = [0u32; 515];
+    start(
+        n,
+        kinds,
+        lefts,
+        gates,
+        rights,
+        parents,
+        counts,
+        step_widths,
+        drops,
+        inputs,
+        delays,
+        &mut lengths,
+        increases,
+        &mut gate_widths,
+        &mut gate_gains,
+        &mut gate_ranks,
+        &mut widths,
+        &mut gains,
+        &mut ranks,
+    );
+    let saving = list_saving(n as usize, counts, step_widths, drops, inputs, &*increases);
+    let steps = step_count(n as usize, counts);
+    let pairs = node_curve(
+        kinds.len() - 1,
+        steps,
+        n,
+        kinds,
+        lefts,
+        gates,
+        rights,
+        parents,
+        counts,
+        step_widths,
+        drops,
+        inputs,
+        increases,
+        &mut gate_widths,
+        &mut gate_gains,
+        &mut gate_ranks,
+        &mut widths,
+        &mut gains,
+        &mut ranks,
+        pair_widths,
+        pair_gains,
+    );
+    TreeCurve { saving, pairs }
+}
+
+// The best increases after `ticks` ticks from the raised start. Answers what they save: the saving at start, and what the ticks earn, counted off the curve.
+pub fn tree_increases(
+    ticks: u32,
+    n: u32,
+    kinds: &[u32],
+    lefts: &[u32],
+    gates: &[u32],
+    rights: &[u32],
+    parents: &[u32],
+    counts: &[u32],
+    step_widths: &[u32],
+    drops: &[u32],
+    inputs: &[u32],
+    delays: &[u32],
+    increases: &mut [u32],
+) -> u64
+    requires { ⌜ ((B : Block) × TreeHeld B n (tree-arrays (now kinds) (now lefts) (now gates) (now rights) (now parents) (now counts) (now «step_widths») (now drops) (now inputs) (now delays))) ⌝ }
+    requires { ⌜ (length (now increases) ≡ n) × (ticks ≤ max-time) ⌝ }
+    ensures { λ r. ⌜ ((B : Block) (held : TreeHeld B n (tree-arrays (now (kinds .entry)) (now (lefts .entry)) (now (gates .entry)) (now (rights .entry)) (now (parents .entry)) (now (counts .entry)) (now («step_widths» .entry)) (now (drops .entry)) (now (inputs .entry)) (now (delays .entry)))) → IncreasesFound B (held .fits) ticks (now (increases .exit)) r) ⌝ }
+{
+    let mut pair_widths = [0u32; 512];
+    let mut pair_gains = [0u32; 512];
+    let curve = tree_curve(
+        n,
+        kinds,
+        lefts,
+        gates,
+        rights,
+        parents,
+        counts,
+        step_widths,
+        drops,
+        inputs,
+        delays,
+        increases,
+        &mut pair_widths,
+        &mut pair_gains,
+    );
+    let mut lengths = [0u32; 515];
+    let mut gate_widths = [0u32; 64];
+    let mut gate_gains = [0u64; 64];
+    let mut gate_ranks = [0u32; 64];
+    let mut widths = [0u32; 515];
+    let mut gains = [0u64; 515];
+    let mut ranks = [0u32; 515];
+    best_within(
+        ticks,
+        n,
+        kinds,
+        lefts,
+        gates,
+        rights,
+        parents,
+        counts,
+        step_widths,
+        drops,
+        inputs,
+        delays,
+        &mut lengths,
+        increases,
+        &mut gate_widths,
+        &mut gate_gains,
+        &mut gate_ranks,
+        &mut widths,
+        &mut gains,
+        &mut ranks,
+    );
+    curve.saving + count_off(&pair_widths, &pair_gains, curve.pairs, ticks)
+}
