@@ -1,2 +1,3 @@
 // The curve and the best increases of a block that is in arrays: refusals 11 and 12, or what is found. For the calls above.
-pub mod tree;
+pub mod held;
+mod tree;

@@ -6,7 +6,8 @@ use native.Mathlib.Omega.{arith}
 use Rattle.parts.specs.Nodes.{Nodes, node-tree, tree-of}
 use Rattle.parts.proofs.Nodes.{tree-at, tree-wire}
 use Rattle.optimum.specs.Tree.{wire, series, parallel}
-use Rattle.sizing.specs.Plan.{as-tree, part, kind, left, gate, right}
+use Rattle.planting.specs.Planted.{as-tree}
+use Rattle.sizing.specs.Plan.{part, kind, left, gate, right}
 
 -- a statement about a kind, by the three kinds
 pub by-kind : {C : Type 0} (a : ℕ) → (a ≡ 0 → C) → (a ≡ 1 → C) → (1 < a → C) → C

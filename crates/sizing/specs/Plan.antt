@@ -11,19 +11,14 @@ use Rattle.model.specs.Limits.{max-gates, max-wires, max-steps, max-activity, m
 use Rattle.model.specs.Block.{Step}
 use Rattle.model.specs.Gain.{drop-of}
 use Rattle.model.specs.Arrays.{step-at}
-use Rattle.parts.specs.Nodes.{Nodes, tree-of, leaf, chain, beside, Tree as NodeTree}
-use Rattle.optimum.specs.Tree.{Tree, wire, series, parallel, Once, Below, size}
+use Rattle.parts.specs.Nodes.{Nodes, tree-of}
+use Rattle.planting.specs.Planted.{as-tree}
+use Rattle.optimum.specs.Tree.{Tree, Once, Below, size}
 use Rattle.optimum.specs.Head.{Head, Heads, no-head, rank}
 use Rattle.optimum.specs.Gates.{room}
 
 abbrev pub nodes-in : List ℕ → List ℕ → List ℕ → List ℕ → Nodes
 nodes-in kinds lefts gates rights = record { kinds = kinds; lefts = lefts; gates = gates; rights = rights }
-
--- the tree of a node as a tree of parts
-abbrev pub as-tree : NodeTree → Tree
-as-tree (leaf d) = wire d
-as-tree (chain P m Q) = series (as-tree P) m (as-tree Q)
-as-tree (beside P Q) = parallel (as-tree P) (as-tree Q)
 
 -- the part whose top is node k
 abbrev pub part : Nodes → ℕ → Tree
