@@ -1,3 +1,4 @@
 pub mod SlacksLaws
 pub mod Slowing
 pub mod JudgeLaws
+pub mod CallLaws

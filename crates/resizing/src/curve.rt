@@ -1,0 +1,69 @@
+// The saving curve of a block file.
+use answers::held::curve_held;
+use loading::Loaded;
+use loading::load;
+use model::CurveAnswer;
+use model::Refusal;
+ghost use Rattle.model.specs.Answer.{AnswersCurve, curve-answer};
+ghost use Rattle.answers.specs.Bounds.{CurveBounds};
+
+// The curve's pairs to the front of `widths` and `gains`, with start and the saving at start; or the first refusal of 1 to 11 that fits.
+pub fn curve(file: &[u8], widths: &mut [u32], gains: &mut [u32]) -> CurveAnswer
+    ensures { λ r. ⌜ AnswersCurve (now (file .entry)) (record { for-widths = now (widths .entry); for-gains = now (gains .entry) }) (record { answer = curve-answer r; memory = record { for-widths = now (widths .exit); for-gains = now (gains .exit) } }) ⌝ }
+    ensures { λ r. ⌜ CurveBounds r (now (gains .exit)) ⌝ }
+{
+    let mut delays = [0u32; 64];
+    let mut activities = [0u32; 64];
+    let mut counts = [0u32; 64];
+    let mut step_widths = [0u32; 512];
+    let mut drops = [0u32; 512];
+    let mut sources = [0u32; 256];
+    let mut targets = [0u32; 256];
+    let mut wire_delays = [0u32; 256];
+    let mut order = [0u32; 64];
+    let loaded = load(
+        file,
+        &mut delays,
+        &mut activities,
+        &mut counts,
+        &mut step_widths,
+        &mut drops,
+        &mut sources,
+        &mut targets,
+        &mut wire_delays,
+        &mut order,
+    );
+    match loaded {
+        Loaded::Refused(refusal) => CurveAnswer::Refused(refusal),
+        Loaded::Sound {
+            gates,
+            wires,
+            arrival: _,
+            deadline: _,
+            activity,
+        } => {
+            if widths.len() < 512 {
+                return CurveAnswer::Refused(Refusal::Room { needed: 512 });
+            }
+            if gains.len() < 512 {
+                return CurveAnswer::Refused(Refusal::Room { needed: 512 });
+            }
+            curve_held(
+                gates,
+                wires,
+                activity,
+                &delays,
+                &activities,
+                &counts,
+                &step_widths,
+                &drops,
+                &sources,
+                &targets,
+                &wire_delays,
+                &order,
+                widths,
+                gains,
+            )
+        }
+    }
+}
