@@ -1,0 +1,2 @@
+// The layout editor's call: the best increases as bytes, for C to link.
+mod bytes;
