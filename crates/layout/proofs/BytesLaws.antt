@@ -1,7 +1,7 @@
 -- Bytes of increases: four stores leave the four bytes of one increase, and four bytes more behind the front are one increase more.
 -- Assumes nothing.
 use mathlib.Core.Path.{_≡_, refl, sym, _∙_, ap}
-use mathlib.Core.List.{List, [], _∷_, _++_, append-assoc, append-nil, flatMap}
+use mathlib.Core.List.{List, [], _∷_, _++_, flatMap}
 use Prim.Native.Nat.{ℕ, suc, _+_, _*_, _/_, _%_, _^_, _<_, _≤_}
 use native.Mathlib.Numerals.{add-one}
 use native.Mathlib.Nat.{div-one}
@@ -36,7 +36,7 @@ unfolding flatMap
 list-bytes-append [] ys = refl
 list-bytes-append (x ∷ xs) ys = rw (list-bytes-append xs ys)
 
-pub length-list-bytes : (xs : List ℕ) → length (list-bytes xs) ≡ 4 * length xs
+length-list-bytes : (xs : List ℕ) → length (list-bytes xs) ≡ 4 * length xs
 unfolding flatMap
 length-list-bytes [] = refl
 length-list-bytes (x ∷ xs) = rw (length-list-bytes xs) (omega arith)
