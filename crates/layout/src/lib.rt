@@ -2,7 +2,7 @@
 use crate::answer::LayoutAnswer;
 use crate::answer::refused;
 use crate::bytes::write_increases;
-use answers::held::best_held;
+use answers::best_lines::best_held;
 use loading::Loaded;
 use loading::load;
 use model::BestAnswer;

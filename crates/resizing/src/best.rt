@@ -1,5 +1,5 @@
 // The best increases of a block file.
-use answers::held::best_held;
+use answers::best_lines::best_held;
 use loading::Loaded;
 use loading::load;
 use model::BestAnswer;

@@ -1,5 +1,5 @@
 // The saving curve of a block file.
-use answers::held::curve_held;
+use answers::curve_lines::curve_held;
 use loading::Loaded;
 use loading::load;
 use model::CurveAnswer;

@@ -1,8 +1,6 @@
-// The curve and the best increases of a well-formed file's block, which is in the arrays: refusals 11 and 12, or what is found.
+// The curve of a well-formed file's block, which is in the arrays: refusal 11, or what is found.
 use crate::tree::tree_curve;
-use crate::tree::tree_increases;
 use gains::inputs::input_activities;
-use model::BestAnswer;
 use model::CurveAnswer;
 use model::Refusal;
 use shaping::plant::plant_block;
@@ -11,7 +9,7 @@ ghost use mathlib.Core.List.{List};
 ghost use Prim.Native.Nat.{ℕ, _≤_};
 ghost use lib.ListN.{length};
 ghost use Rattle.model.specs.Limits.{max-pairs};
-ghost use Rattle.model.specs.Answer.{CurveLines, curve-answer, BestLines, best-answer};
+ghost use Rattle.model.specs.Answer.{CurveLines, curve-answer};
 ghost use Rattle.blockfile.specs.Held.{gate-arrays, wire-arrays};
 ghost use Rattle.loading.specs.Loads.{block-held};
 ghost use Rattle.loading.specs.HeldFile.{HeldFile};
@@ -84,70 +82,4 @@ pub fn curve_held(
         at_start: curve.saving,
         pairs: curve.pairs,
     }
-}
-
-// The best increases of the block, to the front of the slice.
-pub fn best_held(
-    n: usize,
-    m: usize,
-    arrival: u32,
-    deadline: u32,
-    activity: u32,
-    delays: &[u32],
-    activities: &[u32],
-    counts: &[u32],
-    step_widths: &[u32],
-    drops: &[u32],
-    sources: &[u32],
-    targets: &[u32],
-    wire_delays: &[u32],
-    order: &[u32],
-    increases: &mut [u32],
-) -> BestAnswer
-    requires { ⌜ ((file : List ℕ) × HeldFile file n m arrival deadline activity (gate-arrays (now delays) (now activities) (now counts) (now «step_widths») (now drops)) (wire-arrays (now sources) (now targets) (now «wire_delays»)) (now order)) ⌝ }
-    requires { ⌜ n ≤ length (now increases) ⌝ }
-    ensures { λ r. ⌜ ((file : List ℕ) → HeldFile file n m arrival deadline activity (gate-arrays (now (delays .entry)) (now (activities .entry)) (now (counts .entry)) (now («step_widths» .entry)) (now (drops .entry))) (wire-arrays (now (sources .entry)) (now (targets .entry)) (now («wire_delays» .entry))) (now (order .entry)) → BestLines (block-held n m arrival deadline activity (gate-arrays (now (delays .entry)) (now (activities .entry)) (now (counts .entry)) (now («step_widths» .entry)) (now (drops .entry))) (wire-arrays (now (sources .entry)) (now (targets .entry)) (now («wire_delays» .entry)))) (now (increases .entry)) (record { answer = best-answer r; memory = now (increases .exit) })) ⌝ }
-{
-    let mut kinds = [0u32; 515];
-    let mut lefts = [0u32; 515];
-    let mut gates = [0u32; 515];
-    let mut rights = [0u32; 515];
-    let mut parents = [0u32; 515];
-    let nodes = plant_block(
-        n,
-        m,
-        sources,
-        targets,
-        wire_delays,
-        &mut kinds,
-        &mut lefts,
-        &mut gates,
-        &mut rights,
-        &mut parents,
-    );
-    if nodes == 0 {
-        return BestAnswer::Refused(Refusal::NotSeriesParallel);
-    }
-    let start = start_time(n, m, order, sources, targets, wire_delays, delays);
-    if deadline < arrival + start {
-        return BestAnswer::Refused(Refusal::Late);
-    }
-    let mut inputs = [0u32; 64];
-    input_activities(n, m, sources, targets, activities, 0, activity, &mut inputs);
-    let saving = tree_increases(
-        deadline - (arrival + start),
-        n as u32,
-        &kinds[..nodes],
-        &lefts[..nodes],
-        &gates[..nodes],
-        &rights[..nodes],
-        &parents[..nodes],
-        counts,
-        step_widths,
-        drops,
-        &inputs,
-        &delays[..n],
-        &mut increases[..n],
-    );
-    BestAnswer::Given { saving, gates: n }
 }

@@ -1,4 +1,4 @@
--- `answers::held::best_held` meets its contract: the tree is planted, start is measured, and the spare ticks are handed out. Assumes nothing.
+-- `answers::best_lines::best_held` meets its contract: the tree is planted, start is measured, and the spare ticks are handed out. Assumes nothing.
 use borrow.Author.Needs.{needs}
 use mathlib.Core.Path.{_∙_, refl, sym}
 use native.Mathlib.Omega.{arith}
@@ -6,8 +6,8 @@ use lib.Seq.{length-take-le}
 use Rattle.answers.proofs.HeldLaws.{block, given, wires-long, startable, start-found, summable, some, the-limits, the-lent}
 use Rattle.answers.proofs.PlantedLaws.{tree-held}
 use Rattle.answers.proofs.Lines.{in-front, unfit-line, late-line, best-line}
-use Rattle.answers.proofs.held.best_held.Statement.{statement}
-use Rattle.answers.proofs.held.best_held.Tie as tie
+use Rattle.answers.proofs.best_lines.best_held.Statement.{statement}
+use Rattle.answers.proofs.best_lines.best_held.Tie as tie
 
 slice-aggregate-plant-block : tie.Need-slice-aggregate-plant-block
 slice-aggregate-plant-block c = search needs
