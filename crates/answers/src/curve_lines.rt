@@ -9,11 +9,10 @@ ghost use mathlib.Core.List.{List};
 ghost use Prim.Native.Nat.{ℕ, _≤_};
 ghost use lib.ListN.{length};
 ghost use Rattle.model.specs.Limits.{max-pairs};
-ghost use Rattle.model.specs.Answer.{CurveLines, curve-answer};
+ghost use Rattle.model.specs.Answer.{CurveLines, CurveBounds, curve-answer};
 ghost use Rattle.blockfile.specs.Held.{gate-arrays, wire-arrays};
 ghost use Rattle.loading.specs.Loads.{block-held};
 ghost use Rattle.loading.specs.HeldFile.{HeldFile};
-ghost use Rattle.answers.specs.Bounds.{CurveBounds};
 
 // The curve of the block, whatever its arrival and deadline: its pairs to the front of the two slices.
 pub fn curve_held(

@@ -35,7 +35,7 @@ not-both : {r : Reading Block} {B : Block} {o k p : ℕ} → r ≡ found B o →
 not-both e q = let z : _≡_ {A = ℕ} 0 1 = cc in omega arith
 
 -- what is said of the block that a file holds is said of every block that it holds
-carried : {r : Reading Block} {B C : Block} {o p : ℕ} (P : Block → Type 0) → r ≡ found B o → r ≡ found C p → P B → P C
+pub carried : {r : Reading Block} {B C : Block} {o p : ℕ} (P : Block → Type 0) → r ≡ found B o → r ≡ found C p → P B → P C
 carried P e q h = subst P (same-block e q) h
 
 -- a file that holds a well-formed block is not refused

@@ -21,3 +21,4 @@ pub mod Place
 pub mod Stored
 pub mod Limited
 pub mod Encoded
+pub mod Exactly

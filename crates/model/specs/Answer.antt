@@ -2,7 +2,7 @@
 -- Each `Answers..` below is the table of refusals for one call, line after line in the table's order. That a call has one outcome at most is a law (proofs/Answer).
 use mathlib.Core.Path.{_≡_}
 use mathlib.Core.List.{List, [], _∷_, map}
-use Prim.Native.Nat.{ℕ, _+_, _<_}
+use Prim.Native.Nat.{ℕ, _+_, _≤_, _<_}
 use lib.IntN.{ℤ, pos}
 use lib.Signed.{_<ℤ_}
 use lib.ListN.{length, getD, take}
@@ -16,7 +16,7 @@ use Rattle.model.specs.declared.SlacksAnswer as Slacks
 use Rattle.model.specs.declared.CurveAnswer as Curve
 use Rattle.model.specs.declared.BestAnswer as Best
 use Rattle.model.specs.declared.JudgeAnswer as Judge
-use Rattle.model.specs.Limits.{max-pairs}
+use Rattle.model.specs.Limits.{max-pairs, max-gain}
 use Rattle.model.specs.Block.{Block, gate, gate-count, first, last, widths}
 use Rattle.model.specs.Path.{Path}
 use Rattle.model.specs.Gain.{saving}
@@ -161,6 +161,11 @@ AnswersCurve file lent =
     (λ (B : Block).
     Line lent 10 (Shorter (lent .for-widths) max-pairs)
     (Line lent 10 (Shorter (lent .for-gains) max-pairs) (CurveLines B lent)))
+
+-- "There are at most 512 pairs, and no pair's gain is above 63 × 32,768 × 1,000": the pairs of an accepted answer, whose gains are in the slice
+abbrev pub CurveBounds : Curve.CurveAnswer → List ℕ → Type 0
+CurveBounds (Curve.the-variants.Given start at-start pairs) gains = (pairs ≤ max-pairs) × ((i : ℕ) → i < pairs → getD gains i 0 ≤ max-gain)
+CurveBounds (Curve.the-variants.Refused refusal) gains = Unit {0}
 
 -- the best list of the block in front of the slice
 pub data GivesBest (B : Block) (lent : List ℕ) (o : Outcome (List ℕ)) : Type 0 where

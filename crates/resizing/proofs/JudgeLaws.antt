@@ -26,16 +26,15 @@ use Rattle.blockfile.specs.Held.{GateArrays, WireArrays}
 use Rattle.network.specs.Wires.{Lent}
 use Rattle.timing.proofs.Found.{along}
 use Rattle.gains.specs.Steps.{WidthsLent, Held, LowestExceeding}
-use Rattle.gains.specs.Activities.{Summable, InputActivities}
+use Rattle.gains.specs.Activities.{InputActivities}
 use Rattle.gains.specs.Savings.{Earnable, ListSaving}
 use Rattle.gains.proofs.Held.{held-lent}
-use Rattle.gains.proofs.Activities.{input-is, held-activity}
 use Rattle.gains.proofs.Earnings.{block-earnable}
 use Rattle.loading.specs.Loads.{block-held}
-use Rattle.loading.proofs.Held.{gates-are, limits, lent, some-gate, delay-is, delay-most, wire-delay-most}
+use Rattle.loading.proofs.Held.{delay-is, delay-most, wire-delay-most}
 use Rattle.loading.specs.HeldFile.{HeldFile}
 use Rattle.resizing.specs.Slowed.{Lasting, Lasts}
-use Rattle.loading.proofs.Refused.{wire-room}
+use Rattle.answers.proofs.HeldLaws.{count, the-limits, the-lent, some, the-along, inputs-are}
 
 -- so many steps of at most the greatest width
 widths-most : (ss : List Step) → ((j : ℕ) (d : Step) → j < length ss → StepLimits (getD ss j d)) → widths ss ≤ length ss * max-width
@@ -52,38 +51,26 @@ module _ (file : List ℕ) (n m arrival deadline activity : ℕ) (G : GateArrays
   abbrev B : Block
   B = block-held n m arrival deadline activity G W
 
-  count : gate-count B ≡ n
-  count = gates-are file n m arrival deadline activity G W (h .well .end) (h .well .reads)
-
-  the-limits : BlockLimits B
-  the-limits = limits file n m arrival deadline activity G W (h .well .end) (h .well .reads)
-
-  the-lent : Lent n m (W .sources) (W .targets)
-  the-lent = lent file n m arrival deadline activity G W (h .well .end) (h .well .reads) (wire-room (h .sources-long) (h .targets-long) (h .wire-delays-long))
-
-  pub some : 1 ≤ n
-  some = some-gate file n m arrival deadline activity G W (h .well .end) (h .well .reads)
-
   pub arrival-small : arrival ≤ max-time
-  arrival-small = the-limits .arrival-most
+  arrival-small = the-limits h .arrival-most
 
   abbrev pub held : Held B n (G .counts) (G .step-widths) (G .drops)
   held = record { delays = G .delays; activities = G .activities; gates = refl }
 
   pub widths-lent : (g : ℕ) → g < n → WidthsLent (G .counts) (G .step-widths) g
   widths-lent g l =
-      held-lent B n (G .counts) (G .step-widths) (G .drops) held the-limits (omega (arith, h .counts-long, the-lent .gates))
-      (omega (arith, h .widths-long, the-lent .gates)) (omega (arith, h .drops-long, the-lent .gates)) g l .widths-lent
+      held-lent B n (G .counts) (G .step-widths) (G .drops) held (the-limits h) (omega (arith, h .counts-long, the-lent h .gates))
+      (omega (arith, h .widths-long, the-lent h .gates)) (omega (arith, h .drops-long, the-lent h .gates)) g l .widths-lent
 
   -- the list that is judged
   abbrev judged : List ℕ
   judged = take (gate-count B) x
 
   judged-is : take n x ≡ judged
-  judged-is = ap (λ (k : ℕ). take k x) (sym count)
+  judged-is = ap (λ (k : ℕ). take k x) (sym (count h))
 
   long-enough : (p : ℕ) → ¬ ((p ≡ gate-count B) × (length x < gate-count B))
-  long-enough p s = omega (arith, s .1, count)
+  long-enough p s = omega (arith, s .1, count h)
 
   pub lowest-refused : (g : ℕ) → g < n → LowestExceeding B (take n x) n g → AnswersJudge file x (record { answer = refusal 13 g; memory = x })
   lowest-refused g l e =
@@ -96,63 +83,60 @@ module _ (file : List ℕ) (n m arrival deadline activity : ℕ) (G : GateArrays
   within-widths : (r : ℕ) → n ≤ r → LowestExceeding B (take n x) n r → (g : ℕ) → g < n → getD x g 0 ≤ widths (gate B g .steps)
   within-widths r l e g b =
       ⊎-elim (λ (k : getD x g 0 ≤ widths (gate B g .steps)). k)
-      (λ (k : widths (gate B g .steps) < getD x g 0). absurd (none-exceeds r l e g (omega (arith, count), rw (getD-take n x g 0 b) k)))
+      (λ (k : widths (gate B g .steps) < getD x g 0). absurd (none-exceeds r l e g (omega (arith, count h), rw (getD-take n x g 0 b) k)))
       (le-or-lt (getD x g 0) (widths (gate B g .steps)))
 
   pub lasting : (r : ℕ) → n ≤ r → LowestExceeding B (take n x) n r → Lasting n m order (W .sources) (W .targets) (W .delays) (G .delays) x
   lasting r l e =
       record {
-        lent = the-lent;
-        some = some;
+        lent = the-lent h;
+        some = some h;
         ordered = h .ordered;
-        order-long = omega (arith, h .order-long, the-lent .gates);
-        wires-long = omega (arith, h .wire-delays-long, the-lent .wires);
+        order-long = omega (arith, h .order-long, the-lent h .gates);
+        wires-long = omega (arith, h .wire-delays-long, the-lent h .wires);
         of-wire = wire-delay-most file n m arrival deadline activity G W (h .well .end) (h .well .reads);
-        delays-long = omega (arith, h .delays-long, the-lent .gates);
+        delays-long = omega (arith, h .delays-long, the-lent h .gates);
         increases-long = long;
         sum-small =
             λ (g : ℕ) (b : g < n).
             omega (
               arith,
               within-widths r l e g b,
-              widths-most (gate B g .steps) (the-limits .gate-limits g .step-limits),
-              the-limits .gate-limits g .step-count,
+              widths-most (gate B g .steps) (the-limits h .gate-limits g .step-limits),
+              the-limits h .gate-limits g .step-count,
               delay-most file n m arrival deadline activity G W (h .well .end) (h .well .reads) g b,
             );
       }
-
-  the-along : Along (B .wires) n
-  the-along = along n m (W .sources) (W .targets) (W .delays) order the-lent (h .ordered)
 
   -- the delay of a gate with its increase, as the arrays have it
   slowed-is : (g : ℕ) → g < n → getD (G .delays) g 0 + getD x g 0 ≡ slowed B judged g
   slowed-is g b =
       rw (
         delay-is file n m arrival deadline activity G W (h .well .end) (h .well .reads) g b,
-        count,
+        count h,
         getD-take n x g 0 b,
       )
 
   the-entered : Entered (B .wires) n (first B)
-  the-entered = subst (λ (k : ℕ). Entered (B .wires) k (first B)) count (entered B (h .well .network))
+  the-entered = subst (λ (k : ℕ). Entered (B .wires) k (first B)) (count h) (entered B (h .well .network))
 
   -- the time found is that of a longest path
   pub longest-is : (t : ℕ) → Lasts n m (W .sources) (W .targets) (W .delays) (G .delays) x t → Longest (B .wires) (slowed B judged) (first B) (last B) t
   longest-is t l =
       let ws = B .wires in
-      let below : n - 1 < n = omega (arith, some) in
+      let below : n - 1 < n = omega (arith, some h) in
       let same =
-      source-same ws n (λ (g : ℕ). getD (G .delays) g 0 + getD x g 0) (slowed B judged) (the-along .in-range) slowed-is 0 n (n - 1) below in
+      source-same ws n (λ (g : ℕ). getD (G .delays) g 0 + getD x g 0) (slowed B judged) (the-along h .in-range) slowed-is 0 n (n - 1) below in
       let is : t ≡ source-by n ws (slowed B judged) 0 (n - 1) = l .is ∙ same in
-      let r = source-attained ws (slowed B judged) 0 n the-along (first B) the-entered (n - 1) below in
+      let r = source-attained ws (slowed B judged) 0 n (the-along h) (first B) the-entered (n - 1) below in
       let e : r .0 ≡ t = omega (arith, r .2) in
-      let end : n - 1 ≡ last B = ap (λ (k : ℕ). k - 1) (sym count) in
+      let end : n - 1 ≡ last B = ap (λ (k : ℕ). k - 1) (sym (count h)) in
       record {
         attained = rw (e, end) at (r .1);
         greatest =
             λ (u : ℕ) (p : Path ws (slowed B judged) (first B) (last B) u).
             let q : Path ws (slowed B judged) (first B) (n - 1) u = rw (← end) at p in
-            omega (arith, source-greatest ws (slowed B judged) 0 n the-along {a = first B} (omega (arith, some)) q);
+            omega (arith, source-greatest ws (slowed B judged) 0 n (the-along h) {a = first B} (omega (arith, some h)) q);
       }
 
   -- some path is not in time
@@ -181,26 +165,12 @@ module _ (file : List ℕ) (n m arrival deadline activity : ℕ) (G : GateArrays
       omega (arith, longest-is t lasts .greatest (path .0) (path .1)))
       (rw (s ∙ ap (saving B) judged-is) refl))))
 
-  pub summable : Summable n m (W .sources) (W .targets) (G .activities) (no-increase max-gates)
-  summable =
-      record {
-        lent = the-lent;
-        activities-long = omega (arith, h .activities-long, the-lent .gates);
-        activity-small =
-            λ (g : ℕ) (b : g < n).
-            rw (held-activity B n m (W .sources) (W .targets) (W .delays) (G .delays) (G .activities) (G .counts) (G .step-widths) (G .drops) refl refl the-lent g b) at (the-limits .gate-limits g .activity-most);
-        out-long = the-lent .gates;
-      }
-
   module _ (inputs : List ℕ) (inputs-long : length inputs ≡ max-gates) (right : InputActivities n m (W .sources) (W .targets) (G .activities) 0 activity inputs) where
-    inputs-are : (g : ℕ) → g < n → getD inputs g 0 ≡ input-activity B g
-    inputs-are g b = right g b ∙ input-is B n m (W .sources) (W .targets) (W .delays) (G .delays) (G .activities) (G .counts) (G .step-widths) (G .drops) refl refl the-lent g
-
     pub earnable : Earnable n (G .counts) (G .step-widths) (G .drops) inputs x
     earnable =
-        block-earnable n (G .counts) (G .step-widths) (G .drops) inputs x B the-limits held inputs-are
-        (omega (arith, h .counts-long, the-lent .gates)) (omega (arith, h .widths-long, the-lent .gates))
-        (omega (arith, h .drops-long, the-lent .gates)) (omega (arith, the-lent .gates)) long
+        block-earnable n (G .counts) (G .step-widths) (G .drops) inputs x B (the-limits h) held (inputs-are h inputs right)
+        (omega (arith, h .counts-long, the-lent h .gates)) (omega (arith, h .widths-long, the-lent h .gates))
+        (omega (arith, h .drops-long, the-lent h .gates)) (omega (arith, the-lent h .gates)) long
 
     pub saved-is : (r : ℕ) → ListSaving n (G .counts) (G .step-widths) (G .drops) inputs x r → r ≡ saving B (take n x)
-    saved-is r s = s .of-front B held inputs-are
+    saved-is r s = s .of-front B held (inputs-are h inputs right)

@@ -4,8 +4,7 @@ use loading::Loaded;
 use loading::load;
 use model::CurveAnswer;
 use model::Refusal;
-ghost use Rattle.model.specs.Answer.{AnswersCurve, curve-answer};
-ghost use Rattle.answers.specs.Bounds.{CurveBounds};
+ghost use Rattle.model.specs.Answer.{AnswersCurve, CurveBounds, curve-answer};
 
 // The curve's pairs to the front of `widths` and `gains`, with start and the saving at start; or the first refusal of 1 to 11 that fits.
 pub fn curve(file: &[u8], widths: &mut [u32], gains: &mut [u32]) -> CurveAnswer

@@ -3,7 +3,8 @@ use borrow.Author.Needs.{needs}
 use native.Mathlib.Omega.{arith}
 use Rattle.blockfile.specs.Held.{gate-arrays, wire-arrays}
 use Rattle.loading.specs.Loads.{block-held}
-use Rattle.resizing.proofs.JudgeLaws.{some, held, widths-lent, lowest-refused, lasting, late-refused, in-time-accepted, summable, earnable, saved-is, arrival-small}
+use Rattle.answers.proofs.HeldLaws.{some, summable}
+use Rattle.resizing.proofs.JudgeLaws.{held, widths-lent, lowest-refused, lasting, late-refused, in-time-accepted, earnable, saved-is, arrival-small}
 use Rattle.resizing.proofs.judge.judge_held.Statement.{statement}
 use Rattle.resizing.proofs.judge.judge_held.Tie as tie
 
@@ -26,7 +27,7 @@ slice-aggregate-input-activities : tie.Need-slice-aggregate-input-activities
 slice-aggregate-input-activities c = search needs
 
 input-activities-requires : tie.Need-input-activities-requires
-input-activities-requires c κs = (summable (c .before .before .before .before .before .before .before .before .before .before .before .before .before .before .before .pre .0 .0) (c .before .before .before .before .before .before .before .before .before .before .before .before .before .before .before .args .n) (c .before .before .before .before .before .before .before .before .before .before .before .before .before .before .before .args .m) (c .before .before .before .before .before .before .before .before .before .before .before .before .before .before .before .args .arrival) (c .before .before .before .before .before .before .before .before .before .before .before .before .before .before .before .args .deadline) (c .before .before .before .before .before .before .before .before .before .before .before .before .before .before .before .args .activity) (gate-arrays (c .before .before .before .before .before .before .before .before .before .before .before .before .before .before .before .args .delays .now) (c .before .before .before .before .before .before .before .before .before .before .before .before .before .before .before .args .activities .now) (c .before .before .before .before .before .before .before .before .before .before .before .before .before .before .before .args .counts .now) (c .before .before .before .before .before .before .before .before .before .before .before .before .before .before .before .args .step-widths .now) (c .before .before .before .before .before .before .before .before .before .before .before .before .before .before .before .args .drops .now)) (wire-arrays (c .before .before .before .before .before .before .before .before .before .before .before .before .before .before .before .args .sources .now) (c .before .before .before .before .before .before .before .before .before .before .before .before .before .before .before .args .targets .now) (c .before .before .before .before .before .before .before .before .before .before .before .before .before .before .before .args .wire-delays .now)) (c .before .before .before .before .before .before .before .before .before .before .before .before .before .before .before .args .order .now) (c .before .before .before .before .before .before .before .before .before .before .before .before .before .before .before .pre .0 .1) (c .before .before .before .before .before .before .before .before .before .before .before .before .before .before .before .args .increases .now) (c .before .before .before .before .before .before .before .before .before .before .before .before .before .before .before .pre .1), some (c .before .before .before .before .before .before .before .before .before .before .before .before .before .before .before .pre .0 .0) (c .before .before .before .before .before .before .before .before .before .before .before .before .before .before .before .args .n) (c .before .before .before .before .before .before .before .before .before .before .before .before .before .before .before .args .m) (c .before .before .before .before .before .before .before .before .before .before .before .before .before .before .before .args .arrival) (c .before .before .before .before .before .before .before .before .before .before .before .before .before .before .before .args .deadline) (c .before .before .before .before .before .before .before .before .before .before .before .before .before .before .before .args .activity) (gate-arrays (c .before .before .before .before .before .before .before .before .before .before .before .before .before .before .before .args .delays .now) (c .before .before .before .before .before .before .before .before .before .before .before .before .before .before .before .args .activities .now) (c .before .before .before .before .before .before .before .before .before .before .before .before .before .before .before .args .counts .now) (c .before .before .before .before .before .before .before .before .before .before .before .before .before .before .before .args .step-widths .now) (c .before .before .before .before .before .before .before .before .before .before .before .before .before .before .before .args .drops .now)) (wire-arrays (c .before .before .before .before .before .before .before .before .before .before .before .before .before .before .before .args .sources .now) (c .before .before .before .before .before .before .before .before .before .before .before .before .before .before .before .args .targets .now) (c .before .before .before .before .before .before .before .before .before .before .before .before .before .before .before .args .wire-delays .now)) (c .before .before .before .before .before .before .before .before .before .before .before .before .before .before .before .args .order .now) (c .before .before .before .before .before .before .before .before .before .before .before .before .before .before .before .pre .0 .1) (c .before .before .before .before .before .before .before .before .before .before .before .before .before .before .before .args .increases .now) (c .before .before .before .before .before .before .before .before .before .before .before .before .before .before .before .pre .1))
+input-activities-requires c κs = (summable (c .before .before .before .before .before .before .before .before .before .before .before .before .before .before .before .pre .0 .1), some (c .before .before .before .before .before .before .before .before .before .before .before .before .before .before .before .pre .0 .1))
 
 slice-aggregate-list-saving : tie.Need-slice-aggregate-list-saving
 slice-aggregate-list-saving c = search needs
