@@ -54,7 +54,7 @@ module _ (file : List ℕ) (n m arrival deadline activity : ℕ) (G : GateArrays
         out-long = long;
       }
 
-  slack-is : (g : ℕ) → g < n → slack-in n m (W .sources) (W .targets) (W .delays) (G .delays) arrival deadline g ≡ slack B g
+  pub slack-is : (g : ℕ) → g < n → slack-in n m (W .sources) (W .targets) (W .delays) (G .delays) arrival deadline g ≡ slack B g
   unfolding slack required-time source-delay
   slack-is g h =
       let ws = wires-in m (W .sources) (W .targets) (W .delays) in

@@ -1,0 +1,45 @@
+-- `printing::held::print_block` meets its contract: what it hands over to be printed are the numbers of the block. Assumes nothing.
+use borrow.Author.Needs.{needs}
+use mathlib.Core.Path.{refl}
+use native.Mathlib.Omega.{arith}
+use lib.ListN.{take}
+use Rattle.answers.proofs.HeldLaws.{block, startable, the-limits, the-lent}
+use Rattle.printing.proofs.HeldLaws.{slackable, gates-numbers, listed, head-numbers, spare-fits}
+use Rattle.printing.proofs.held.print_block.Statement.{statement}
+use Rattle.printing.proofs.held.print_block.Tie as tie
+
+start-time-requires : tie.Need-start-time-requires
+start-time-requires c κs = startable (c .before .before .before .before .before .before .before .before .before .before .before .pre .0 .1)
+
+add-spare : tie.Need-add-spare
+add-spare c = omega (arith, the-limits (c .before .before .before .before .before .before .before .before .before .before .before .before .pre .0 .1) .arrival-most, c .start-time .ensures .small)
+
+sub-spare : tie.Need-sub-spare
+sub-spare c = spare-fits (c .before .before .before .before .before .before .before .before .before .before .before .before .pre .0 .1) (c .before .before .before .before .before .before .before .before .before .before .before .before .pre .1 .0) (c .start-time .ensures)
+
+slice-aggregate-write-slacks : tie.Need-slice-aggregate-write-slacks
+slice-aggregate-write-slacks c = search needs
+
+write-slacks-requires : tie.Need-write-slacks-requires
+write-slacks-requires c κs = slackable (c .before .before .before .before .before .before .before .before .before .before .before .before .before .pre .0 .1) _ refl
+
+cast-write-block : tie.Need-cast-write-block
+cast-write-block c = search needs
+
+cast-write-block-2 : tie.Need-cast-write-block-2
+cast-write-block-2 c = search needs
+
+slice-aggregate-write-block : tie.Need-slice-aggregate-write-block
+slice-aggregate-write-block c = search needs
+
+write-block-requires : tie.Need-write-block-requires
+write-block-requires c κs = (the-lent (c .before .before .before .before .before .before .before .before .before .before .before .before .before .before .before .before .before .pre .0 .1) .gates, c .before .before .before .before .before .before .before .before .before .before .before .before .before .before .before .before .before .pre .1 .1, listed (c .before .before .before .before .before .before .before .before .before .before .before .before .before .before .before .before .before .pre .0 .1) _ refl _ (c .before .before .before .write-slacks .ensures) (c .before .before .before .before .before .before .before .before .before .before .before .before .before .before .before .before .before .pre .1 .0) (c .before .before .before .write-slacks .kept .1 .1 .1 .1 .1 .1 .1 .1 .1 .0))
+
+same-length : tie.Need-same-length
+same-length c = c .before .before .write-block .kept .1 .1 .1 .1 .1 .1 .1 .1 .0
+
+returns : tie.Need-returns
+returns c = c .before .before .write-block .ensures .1 (block (c .before .before .before .before .before .before .before .before .before .before .before .before .before .before .before .before .before .before .before .before .pre .0 .1)) (take (c .before .before .before .before .before .before .before .before .before .before .before .before .before .before .before .before .before .before .before .before .args .n) (c .before .before .before .before .before .before .before .before .before .before .before .before .before .before .before .before .before .before .before .before .args .increases .now)) (head-numbers (c .before .before .before .before .before .before .before .before .before .before .before .before .before .before .before .before .before .before .before .before .pre .0 .1) (c .before .before .before .before .before .before .before .before .before .before .before .before .before .before .before .before .before .before .before .before .pre .1 .0) (c .before .before .before .before .before .before .before .before .start-time .ensures)) (gates-numbers (c .before .before .before .before .before .before .before .before .before .before .before .before .before .before .before .before .before .before .before .before .pre .0 .1) _ refl _ (c .before .before .before .before .before .before .write-slacks .ensures) (c .before .before .before .before .before .before .before .before .before .before .before .before .before .before .before .before .before .before .before .before .args .increases .now))
+
+pub print-block-spec : {M : Type 1} → statement M
+print-block-spec = tie.close (tie.spec start-time-requires add-spare sub-spare slice-aggregate-write-slacks write-slacks-requires cast-write-block cast-write-block-2 slice-aggregate-write-block write-block-requires same-length returns)

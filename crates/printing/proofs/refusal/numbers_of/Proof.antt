@@ -1,0 +1,133 @@
+-- `printing::refusal::numbers_of` meets its contract, by the cases of the refusal. Assumes nothing.
+use borrow.Author.Needs.{needs}
+use Rattle.printing.proofs.refusal.numbers_of.Statement.{statement}
+use Rattle.printing.proofs.refusal.numbers_of.Tie as tie
+
+enum-known-refusal : tie.Need-enum-known-refusal
+enum-known-refusal c = search needs
+
+line-with-requires : tie.Need-line-with-requires
+line-with-requires c κs = search needs
+
+enum-known-refusal-2 : tie.Need-enum-known-refusal-2
+enum-known-refusal-2 c = search needs
+
+line-with-requires-2 : tie.Need-line-with-requires-2
+line-with-requires-2 c κs = search needs
+
+enum-known-refusal-3 : tie.Need-enum-known-refusal-3
+enum-known-refusal-3 c = search needs
+
+line-with-requires-3 : tie.Need-line-with-requires-3
+line-with-requires-3 c κs = search needs
+
+enum-known-refusal-4 : tie.Need-enum-known-refusal-4
+enum-known-refusal-4 c = search needs
+
+line-with-requires-4 : tie.Need-line-with-requires-4
+line-with-requires-4 c κs = search needs
+
+enum-known-refusal-5 : tie.Need-enum-known-refusal-5
+enum-known-refusal-5 c = search needs
+
+line-with-requires-5 : tie.Need-line-with-requires-5
+line-with-requires-5 c κs = search needs
+
+enum-known-refusal-6 : tie.Need-enum-known-refusal-6
+enum-known-refusal-6 c = search needs
+
+line-with-requires-6 : tie.Need-line-with-requires-6
+line-with-requires-6 c κs = search needs
+
+enum-known-refusal-7 : tie.Need-enum-known-refusal-7
+enum-known-refusal-7 c = search needs
+
+line-with-requires-7 : tie.Need-line-with-requires-7
+line-with-requires-7 c κs = search needs
+
+enum-known-refusal-8 : tie.Need-enum-known-refusal-8
+enum-known-refusal-8 c = search needs
+
+line-with-requires-8 : tie.Need-line-with-requires-8
+line-with-requires-8 c κs = search needs
+
+enum-known-refusal-9 : tie.Need-enum-known-refusal-9
+enum-known-refusal-9 c = search needs
+
+line-with-requires-9 : tie.Need-line-with-requires-9
+line-with-requires-9 c κs = search needs
+
+enum-known-refusal-10 : tie.Need-enum-known-refusal-10
+enum-known-refusal-10 c = search needs
+
+line-with-requires-10 : tie.Need-line-with-requires-10
+line-with-requires-10 c κs = search needs
+
+enum-told : tie.Need-enum-told
+enum-told c = search needs
+
+line-with-requires-11 : tie.Need-line-with-requires-11
+line-with-requires-11 c κs = search needs
+
+enum-told-2 : tie.Need-enum-told-2
+enum-told-2 c = search needs
+
+line-with-requires-12 : tie.Need-line-with-requires-12
+line-with-requires-12 c κs = search needs
+
+enum-known-refusal-11 : tie.Need-enum-known-refusal-11
+enum-known-refusal-11 c = search needs
+
+line-with-requires-13 : tie.Need-line-with-requires-13
+line-with-requires-13 c κs = search needs
+
+enum-told-3 : tie.Need-enum-told-3
+enum-told-3 c = search needs
+
+line-with-requires-14 : tie.Need-line-with-requires-14
+line-with-requires-14 c κs = search needs
+
+returns : tie.Need-returns
+returns c = rw (c .before .before .refusal .given .1) (c .line-with .ensures)
+
+returns-2 : tie.Need-returns-2
+returns-2 c = rw (c .before .before .refusal2 .given .1) (c .line-with2 .ensures)
+
+returns-3 : tie.Need-returns-3
+returns-3 c = rw (c .before .before .refusal3 .given .1) (c .line-with3 .ensures)
+
+returns-4 : tie.Need-returns-4
+returns-4 c = rw (c .before .before .refusal4 .given .1) (c .line-with4 .ensures)
+
+returns-5 : tie.Need-returns-5
+returns-5 c = rw (c .before .before .refusal5 .given .1) (c .line-with5 .ensures)
+
+returns-6 : tie.Need-returns-6
+returns-6 c = rw (c .before .before .refusal6 .given .1) (c .line-with6 .ensures)
+
+returns-7 : tie.Need-returns-7
+returns-7 c = rw (c .before .before .refusal7 .given .1) (c .line-with7 .ensures)
+
+returns-8 : tie.Need-returns-8
+returns-8 c = rw (c .before .before .refusal8 .given .1) (c .line-with8 .ensures)
+
+returns-9 : tie.Need-returns-9
+returns-9 c = rw (c .before .before .refusal9 .given .1) (c .line-with9 .ensures)
+
+returns-10 : tie.Need-returns-10
+returns-10 c = rw (c .before .before .refusal10 .given .1) (c .line-with10 .ensures)
+
+returns-11 : tie.Need-returns-11
+returns-11 c = rw (c .before .enum-told .given .1) (c .line-with11 .ensures)
+
+returns-12 : tie.Need-returns-12
+returns-12 c = rw (c .before .enum-told2 .given .1) (c .line-with12 .ensures)
+
+returns-13 : tie.Need-returns-13
+returns-13 c = rw (c .before .before .refusal11 .given .1) (c .line-with13 .ensures)
+
+returns-14 : tie.Need-returns-14
+returns-14 c = rw (c .before .enum-told3 .given .1) (c .line-with14 .ensures)
+
+pub numbers-of-spec : {M : Type 1} → statement M
+numbers-of-spec = tie.close (tie.spec enum-known-refusal line-with-requires enum-known-refusal-2 line-with-requires-2 enum-known-refusal-3 line-with-requires-3 enum-known-refusal-4 line-with-requires-4 enum-known-refusal-5 line-with-requires-5 enum-known-refusal-6 line-with-requires-6 enum-known-refusal-7 line-with-requires-7 enum-known-refusal-8 line-with-requires-8 enum-known-refusal-9 line-with-requires-9 enum-known-refusal-10 line-with-requires-10 enum-told line-with-requires-11 enum-told-2 line-with-requires-12 enum-known-refusal-11 line-with-requires-13 enum-told-3 line-with-requires-14 returns returns-2 returns-3 returns-4 returns-5 returns-6 returns-7 returns-8 returns-9 returns-10 returns-11 returns-12 returns-13 returns-14)

@@ -1,0 +1,2 @@
+pub mod PrintoutIn
+pub mod Shown
