@@ -5,6 +5,7 @@ ghost use Prim.Native.Nat.{_+_, _≤_};
 ghost use lib.ListN.{length};
 use blockfile::field::number_at;
 use libc::STDOUT_FILENO;
+use loading::numbers::numbers_of;
 use model::JudgeAnswer;
 use model::Refusal;
 use model::SlacksAnswer;
@@ -29,38 +30,12 @@ fn end_line() {
     io::write_all(STDOUT_FILENO, b"\n");
 }
 
-fn print_refusal(number: u64, place: usize) {
+// A refusal's number and place.
+fn print_refusal(refusal: Refusal) {
+    let numbers = numbers_of(refusal);
     io::write_all(STDOUT_FILENO, b" refused");
-    print_number(number);
-    print_number(place as u64);
-}
-
-// Prints a refusal of a block file, 1 to 7.
-fn print_file_refusal(refusal: Refusal) {
-    match refusal {
-        Refusal::Short { offset } => print_refusal(1, offset),
-        Refusal::Tag { offset } => print_refusal(2, offset),
-        Refusal::Length { offset } => print_refusal(3, offset),
-        Refusal::Range { offset } => print_refusal(4, offset),
-        Refusal::Drops { offset } => print_refusal(5, offset),
-        Refusal::Wire { offset } => print_refusal(6, offset),
-        Refusal::Excess { offset } => print_refusal(7, offset),
-        _ => print_call_refusal(refusal),
-    }
-}
-
-// Prints a refusal of 8 and above.
-fn print_call_refusal(refusal: Refusal) {
-    match refusal {
-        Refusal::Loop { gate } => print_refusal(8, gate),
-        Refusal::Ends { gate } => print_refusal(9, gate),
-        Refusal::Room { needed } => print_refusal(10, needed),
-        Refusal::NotSeriesParallel => print_refusal(11, 0),
-        Refusal::Late => print_refusal(12, 0),
-        Refusal::Widths { gate } => print_refusal(13, gate),
-        Refusal::PathLate => print_refusal(14, 0),
-        _ => print_refusal(0, 0),
-    }
+    print_number(numbers.number as u64);
+    print_number(numbers.place as u64);
 }
 
 // Prints the elements of a slice.
@@ -75,7 +50,7 @@ fn print_slacks(xs: &[i32]) {
 fn print_slacks_answer(answer: SlacksAnswer) {
     io::write_all(STDOUT_FILENO, b"slacks");
     match answer {
-        SlacksAnswer::Refused(refusal) => print_file_refusal(refusal),
+        SlacksAnswer::Refused(refusal) => print_refusal(refusal),
         SlacksAnswer::Given { gates } => print_number(gates as u64),
     }
     io::write_all(STDOUT_FILENO, b" :");
@@ -98,7 +73,7 @@ fn run_slacks(file: &[u8]) {
 fn print_judge_answer(answer: JudgeAnswer) {
     io::write_all(STDOUT_FILENO, b"judge");
     match answer {
-        JudgeAnswer::Refused(refusal) => print_file_refusal(refusal),
+        JudgeAnswer::Refused(refusal) => print_refusal(refusal),
         JudgeAnswer::Accepted { saving } => print_number(saving),
     }
     end_line();

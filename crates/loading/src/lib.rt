@@ -1,4 +1,6 @@
 // A block file read and its network judged: the refusals 1 to 9, which every call has in common.
+pub mod numbers;
+
 use blockfile::read::BlockRead;
 use blockfile::read::read_block;
 use model::Refusal;

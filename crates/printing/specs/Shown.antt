@@ -1,4 +1,4 @@
--- What the functions of this crate ask and answer besides the printout: a refusal by its number and place, and a block that can be printed.
+-- What the functions of this crate ask besides the room: a block that can be printed.
 use mathlib.Core.Path.{_≡_}
 use mathlib.Core.List.{List}
 use Prim.Native.Nat.{ℕ, _+_, _≤_}
@@ -6,11 +6,6 @@ use lib.ListN.{length, take}
 use Rattle.model.specs.Block.{Block}
 use Rattle.model.specs.Gain.{saving}
 use Rattle.model.specs.Slack.{start}
-use Rattle.printing.specs.declared.refusal.RefusalLine.{RefusalLine}
-
--- the line of the refusal with number k and place p
-abbrev pub line-of : ℕ → ℕ → RefusalLine
-line-of k p = record { number = k; place = p }
 
 -- The block B of n gates is in time, and the first n elements of the list are increases that save `saved`.
 pub record Sized (B : Block) (n saved : ℕ) (increases : List ℕ) : Type 0 where

@@ -1,133 +1,20 @@
--- `layout::answer::refused` meets its contract, by the cases of the refusal. Assumes nothing.
+-- `layout::answer::refused` meets its contract: the two numbers are those of the refusal. Assumes nothing.
 use borrow.Author.Needs.{needs}
+use mathlib.Core.Path.{ap}
+use native.Mathlib.Omega.{arith}
+use Rattle.loading.specs.declared.numbers.Numbers.{Numbers}
+use Rattle.layout.specs.Answered.{refused-as}
 use Rattle.layout.proofs.answer.refused.Statement.{statement}
 use Rattle.layout.proofs.answer.refused.Tie as tie
 
-enum-known-refusal : tie.Need-enum-known-refusal
-enum-known-refusal c = search needs
+numbers-of-requires : tie.Need-numbers-of-requires
+numbers-of-requires c κs = search needs
 
-refused-at-requires : tie.Need-refused-at-requires
-refused-at-requires c κs = rw (c .before .refusal .given .1) at (c .before .before .before .pre)
-
-enum-known-refusal-2 : tie.Need-enum-known-refusal-2
-enum-known-refusal-2 c = search needs
-
-refused-at-requires-2 : tie.Need-refused-at-requires-2
-refused-at-requires-2 c κs = rw (c .before .refusal2 .given .1) at (c .before .before .before .pre)
-
-enum-known-refusal-3 : tie.Need-enum-known-refusal-3
-enum-known-refusal-3 c = search needs
-
-refused-at-requires-3 : tie.Need-refused-at-requires-3
-refused-at-requires-3 c κs = rw (c .before .refusal3 .given .1) at (c .before .before .before .pre)
-
-enum-known-refusal-4 : tie.Need-enum-known-refusal-4
-enum-known-refusal-4 c = search needs
-
-refused-at-requires-4 : tie.Need-refused-at-requires-4
-refused-at-requires-4 c κs = rw (c .before .refusal4 .given .1) at (c .before .before .before .pre)
-
-enum-known-refusal-5 : tie.Need-enum-known-refusal-5
-enum-known-refusal-5 c = search needs
-
-refused-at-requires-5 : tie.Need-refused-at-requires-5
-refused-at-requires-5 c κs = rw (c .before .refusal5 .given .1) at (c .before .before .before .pre)
-
-enum-known-refusal-6 : tie.Need-enum-known-refusal-6
-enum-known-refusal-6 c = search needs
-
-refused-at-requires-6 : tie.Need-refused-at-requires-6
-refused-at-requires-6 c κs = rw (c .before .refusal6 .given .1) at (c .before .before .before .pre)
-
-enum-known-refusal-7 : tie.Need-enum-known-refusal-7
-enum-known-refusal-7 c = search needs
-
-refused-at-requires-7 : tie.Need-refused-at-requires-7
-refused-at-requires-7 c κs = rw (c .before .refusal7 .given .1) at (c .before .before .before .pre)
-
-enum-known-refusal-8 : tie.Need-enum-known-refusal-8
-enum-known-refusal-8 c = search needs
-
-refused-at-requires-8 : tie.Need-refused-at-requires-8
-refused-at-requires-8 c κs = rw (c .before .refusal8 .given .1) at (c .before .before .before .pre)
-
-enum-known-refusal-9 : tie.Need-enum-known-refusal-9
-enum-known-refusal-9 c = search needs
-
-refused-at-requires-9 : tie.Need-refused-at-requires-9
-refused-at-requires-9 c κs = rw (c .before .refusal9 .given .1) at (c .before .before .before .pre)
-
-enum-known-refusal-10 : tie.Need-enum-known-refusal-10
-enum-known-refusal-10 c = search needs
-
-refused-at-requires-10 : tie.Need-refused-at-requires-10
-refused-at-requires-10 c κs = rw (c .before .refusal10 .given .1) at (c .before .before .before .pre)
-
-enum-told : tie.Need-enum-told
-enum-told c = search needs
-
-refused-at-requires-11 : tie.Need-refused-at-requires-11
-refused-at-requires-11 c κs = search needs
-
-enum-told-2 : tie.Need-enum-told-2
-enum-told-2 c = search needs
-
-refused-at-requires-12 : tie.Need-refused-at-requires-12
-refused-at-requires-12 c κs = search needs
-
-enum-known-refusal-11 : tie.Need-enum-known-refusal-11
-enum-known-refusal-11 c = search needs
-
-refused-at-requires-13 : tie.Need-refused-at-requires-13
-refused-at-requires-13 c κs = rw (c .before .refusal11 .given .1) at (c .before .before .before .pre)
-
-enum-told-3 : tie.Need-enum-told-3
-enum-told-3 c = search needs
-
-refused-at-requires-14 : tie.Need-refused-at-requires-14
-refused-at-requires-14 c κs = search needs
+cast-t3 : tie.Need-cast-t3
+cast-t3 c = let e = ap (λ (a : Numbers). a .place) (c .before .numbers-of .ensures) in omega (arith, c .before .before .pre)
 
 returns : tie.Need-returns
-returns c = rw (c .before .before .refusal .given .1) (c .refused-at .ensures)
-
-returns-2 : tie.Need-returns-2
-returns-2 c = rw (c .before .before .refusal2 .given .1) (c .refused-at2 .ensures)
-
-returns-3 : tie.Need-returns-3
-returns-3 c = rw (c .before .before .refusal3 .given .1) (c .refused-at3 .ensures)
-
-returns-4 : tie.Need-returns-4
-returns-4 c = rw (c .before .before .refusal4 .given .1) (c .refused-at4 .ensures)
-
-returns-5 : tie.Need-returns-5
-returns-5 c = rw (c .before .before .refusal5 .given .1) (c .refused-at5 .ensures)
-
-returns-6 : tie.Need-returns-6
-returns-6 c = rw (c .before .before .refusal6 .given .1) (c .refused-at6 .ensures)
-
-returns-7 : tie.Need-returns-7
-returns-7 c = rw (c .before .before .refusal7 .given .1) (c .refused-at7 .ensures)
-
-returns-8 : tie.Need-returns-8
-returns-8 c = rw (c .before .before .refusal8 .given .1) (c .refused-at8 .ensures)
-
-returns-9 : tie.Need-returns-9
-returns-9 c = rw (c .before .before .refusal9 .given .1) (c .refused-at9 .ensures)
-
-returns-10 : tie.Need-returns-10
-returns-10 c = rw (c .before .before .refusal10 .given .1) (c .refused-at10 .ensures)
-
-returns-11 : tie.Need-returns-11
-returns-11 c = rw (c .before .enum-told .given .1) (c .refused-at11 .ensures)
-
-returns-12 : tie.Need-returns-12
-returns-12 c = rw (c .before .enum-told2 .given .1) (c .refused-at12 .ensures)
-
-returns-13 : tie.Need-returns-13
-returns-13 c = rw (c .before .before .refusal11 .given .1) (c .refused-at13 .ensures)
-
-returns-14 : tie.Need-returns-14
-returns-14 c = rw (c .before .enum-told3 .given .1) (c .refused-at14 .ensures)
+returns c = ap (λ (a : Numbers). refused-as (a .number) (a .place)) (c .before .numbers-of .ensures)
 
 pub refused-spec : {M : Type 1} → statement M
-refused-spec = tie.close (tie.spec enum-known-refusal refused-at-requires enum-known-refusal-2 refused-at-requires-2 enum-known-refusal-3 refused-at-requires-3 enum-known-refusal-4 refused-at-requires-4 enum-known-refusal-5 refused-at-requires-5 enum-known-refusal-6 refused-at-requires-6 enum-known-refusal-7 refused-at-requires-7 enum-known-refusal-8 refused-at-requires-8 enum-known-refusal-9 refused-at-requires-9 enum-known-refusal-10 refused-at-requires-10 enum-told refused-at-requires-11 enum-told-2 refused-at-requires-12 enum-known-refusal-11 refused-at-requires-13 enum-told-3 refused-at-requires-14 returns returns-2 returns-3 returns-4 returns-5 returns-6 returns-7 returns-8 returns-9 returns-10 returns-11 returns-12 returns-13 returns-14)
+refused-spec = tie.close (tie.spec numbers-of-requires cast-t3 returns)
