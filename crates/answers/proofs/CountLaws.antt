@@ -1,24 +1,27 @@
--- The curve of a block whose tree stands in node arrays: it is no longer and its gains are no greater than document 01 says, and what ticks counted off it earn is what the increases save beyond the start.
+-- The curve of a block whose tree stands in node arrays: it is no longer and its gains are no greater than document 01 says, and what ticks earn on the runs on which they are spent is what the increases save beyond the start.
 -- Assumes nothing.
-use mathlib.Core.Path.{_≡_, refl, sym, _∙_}
+use mathlib.Core.Path.{_≡_, refl, sym, _∙_, ap}
 use mathlib.Core.List.{List, [], _∷_, List·Memᴰ, List·Memᴰ·head, List·Memᴰ·tail}
 use Prim.Native.Nat.{ℕ, _+_, _-_, _*_, _^_, _≤_, _<_, min, max}
-use native.Mathlib.Nat.{mul-le-mul-right, mul-le-mul-left, add-mul, le-trans}
+use native.Mathlib.Nat.{mul-le-mul-right, mul-le-mul-left, add-mul}
 use native.Mathlib.Omega.{arith}
-use lib.ListN.{length}
+use lib.ListN.{length, getD}
+use Rattle.lists.specs.Sum.{sum}
 use Rattle.model.specs.Limits.{max-gates, max-pairs, max-gain, max-activity, max-drop, max-time}
 use Rattle.model.specs.Block.{Block, gate-count}
-use Rattle.model.specs.Gain.{saving}
 use Rattle.model.specs.Curve.{Pair, count-off}
 use Rattle.optimum.specs.BlockTree.{block-tree, increases, pairs-of}
 use Rattle.optimum.proofs.Curve.{saving-after, pairs-few}
 use Rattle.optimum.proofs.Optimum.{pair-range}
+use Rattle.gains.specs.Savings.{ListSaving, most-of-gate}
+use Rattle.sizing.specs.Raise.{root}
+use Rattle.sizing.specs.Pairs.{Spent}
+use Rattle.sizing.proofs.Blocks.{heads-are}
+use Rattle.sizing.proofs.Spent.{spent-increases, spent-earns}
 use Rattle.curve.specs.Position.{pairs-in}
-use Rattle.curve.proofs.Held.{pairs-held}
 use Rattle.shaping.proofs.Facts.{join, no-wire-twice, descending, ranges}
-use Rattle.answers.specs.declared.tree.TreeCurve.{TreeCurve}
-use Rattle.answers.specs.TreeHeld.{TreeArrays, TreeHeld, CurveFound, IncreasesFound}
-use Rattle.answers.proofs.TreeLaws.{is-tree, steps-are, steps-few}
+use Rattle.answers.specs.TreeHeld.{TreeArrays, TreeHeld, IncreasesFound}
+use Rattle.answers.proofs.TreeLaws.{plan-of, is-tree, gates-few, saved-is, steps-are, steps-few}
 
 -- k ticks counted off earn at most k times the greatest gain
 count-off-most : (g : ℕ) (ps : List Pair) → ((p : Pair) → List·Memᴰ p ps → p .gain ≤ g) → (k : ℕ) → count-off ps k ≤ k * g
@@ -48,27 +51,38 @@ module _ {B : Block} {n : ℕ} {A : TreeArrays} (h : TreeHeld B n A) where
             (no-wire-twice B (h .limits) (h .sound)) p m,
       )
 
-  module _ {ws gs ws′ gs′ : List ℕ} {r : TreeCurve} (ticks : ℕ) {counted : ℕ} (found : CurveFound B (h .fits) ws gs ws′ gs′ r)
-      (off : counted ≡ count-off (pairs-in (r .pairs) ws′ gs′) ticks) where
+  -- ticks spent from the raised start on
+  module _ {x x′ ws gs : List ℕ} {s r ticks saved counted : ℕ} (at-start : x ≡ increases B (block-tree B (h .fits)) 0)
+      (steps : s ≡ sum n (λ (g : ℕ). getD (A .counts) g 0)) (saves : ListSaving n (A .counts) (A .step-widths) (A .drops) (A .inputs) x saved)
+      (spent : Spent (plan-of h) x x′ (root (plan-of h)) ticks s r ws gs) (off : counted ≡ count-off (pairs-in r ws gs) ticks) where
+    list-after : x′ ≡ increases B (block-tree B (h .fits)) ticks
+    list-after =
+        spent .increases
+        ∙ rw (h .top, at-start, steps, steps-are h, heads-are (h .held)) (spent-increases B (block-tree B (h .fits)) (is-tree h) (descending B (h .limits)) ticks)
+
     counted-is : counted ≡ count-off (pairs-of B (block-tree B (h .fits))) ticks
-    counted-is = off ∙ rw (found .count, found .widths, found .gains, pairs-held (pairs-of B (block-tree B (h .fits))) ws gs)
+    counted-is =
+        off
+        ∙ ap (λ (ps : List Pair). count-off ps ticks) (spent .pairs)
+        ∙ rw (h .top, at-start, steps, steps-are h, heads-are (h .held)) (spent-earns B (block-tree B (h .fits)) (is-tree h) (descending B (h .limits)) ticks)
 
     -- the sum fits 64 bits
-    pub sum-fits : ticks ≤ max-time → r .saving + counted < 2 ^ 64
+    pub sum-fits : ticks ≤ max-time → saved + counted < 2 ^ 64
     sum-fits few =
         omega (
           arith,
-          found .small,
+          saves .small,
+          mul-le-mul-right most-of-gate (gates-few h),
           counted-is,
           count-off-most max-gain (pairs-of B (block-tree B (h .fits))) gains-few ticks,
           mul-le-mul-right max-gain few,
         )
 
-    pub increases-found : {x : List ℕ} → x ≡ increases B (block-tree B (h .fits)) ticks → IncreasesFound B (h .fits) ticks x (r .saving + counted)
-    increases-found e =
+    pub increases-found : IncreasesFound B (h .fits) ticks x′ (saved + counted)
+    increases-found =
         record {
-          list = e;
+          list = list-after;
           saved =
-              rw (found .saved, counted-is, e)
+              rw (saved-is h saves, at-start, counted-is, list-after)
               (sym (saving-after B (block-tree B (h .fits)) (is-tree h) (descending B (h .limits)) ticks));
         }

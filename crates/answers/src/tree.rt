@@ -2,9 +2,9 @@
 use curve::count::count_off;
 use gains::saving::list_saving;
 use network::marking::at;
-use sizing::best::best_within;
-use sizing::best::start;
 use sizing::curve::node_curve;
+use sizing::curve::spend_ticks;
+use sizing::start::start;
 ghost use mathlib.Core.Path.{_≡_};
 ghost use Prim.Native.Nat.{ℕ, _≤_, _<_};
 ghost use lib.ListN.{length, getD};
@@ -111,7 +111,7 @@ pub fn tree_curve(
     TreeCurve { saving, pairs }
 }
 
-// The best increases after `ticks` ticks from the raised start. Answers what they save: the saving at start, and what the ticks earn, counted off the curve.
+// The best increases after `ticks` ticks from the raised start. Answers what they save: the saving at start, and what the ticks earn, counted off the pairs of their runs.
 pub fn tree_increases(
     ticks: u32,
     n: u32,
@@ -131,24 +131,6 @@ pub fn tree_increases(
     requires { ⌜ (length (now increases) ≡ n) × (ticks ≤ max-time) ⌝ }
     ensures { λ r. ⌜ ((B : Block) (held : TreeHeld B n (tree-arrays (now (kinds .entry)) (now (lefts .entry)) (now (gates .entry)) (now (rights .entry)) (now (parents .entry)) (now (counts .entry)) (now («step_widths» .entry)) (now (drops .entry)) (now (inputs .entry)) (now (delays .entry)))) → IncreasesFound B (held .fits) ticks (now (increases .exit)) r) ⌝ }
 {
-    let mut pair_widths = [0u32; 512];
-    let mut pair_gains = [0u32; 512];
-    let curve = tree_curve(
-        n,
-        kinds,
-        lefts,
-        gates,
-        rights,
-        parents,
-        counts,
-        step_widths,
-        drops,
-        inputs,
-        delays,
-        increases,
-        &mut pair_widths,
-        &mut pair_gains,
-    );
     let mut lengths = [0u32; 515];
     let mut gate_widths = [0u32; 64];
     let mut gate_gains = [0u64; 64];
@@ -156,8 +138,9 @@ pub fn tree_increases(
     let mut widths = [0u32; 515];
     let mut gains = [0u64; 515];
     let mut ranks = [0u32; 515];
-    best_within(
-        ticks,
+    let mut pair_widths = [0u32; 512];
+    let mut pair_gains = [0u32; 512];
+    start(
         n,
         kinds,
         lefts,
@@ -178,5 +161,31 @@ pub fn tree_increases(
         &mut gains,
         &mut ranks,
     );
-    curve.saving + count_off(&pair_widths, &pair_gains, curve.pairs, ticks)
+    let saving = list_saving(n as usize, counts, step_widths, drops, inputs, &*increases);
+    let steps = step_count(n as usize, counts);
+    let pairs = spend_ticks(
+        kinds.len() - 1,
+        ticks,
+        steps,
+        n,
+        kinds,
+        lefts,
+        gates,
+        rights,
+        parents,
+        counts,
+        step_widths,
+        drops,
+        inputs,
+        increases,
+        &mut gate_widths,
+        &mut gate_gains,
+        &mut gate_ranks,
+        &mut widths,
+        &mut gains,
+        &mut ranks,
+        &mut pair_widths,
+        &mut pair_gains,
+    );
+    saving + count_off(&pair_widths, &pair_gains, pairs, ticks)
 }

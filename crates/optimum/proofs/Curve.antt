@@ -44,7 +44,7 @@ module _ (B : Block) (t : Tree) (tree : IsTree B t) (descending : (g : ℕ) → 
   heads : Heads (gate-count B) (gate-head B)
   heads = gate-heads B descending
 
-  placed : (k : ℕ) → Placed t (increases B t k)
+  pub placed : (k : ℕ) → Placed t (increases B t k)
   placed k g l = omega (arith, tree .below g l, length-sized (gate-head B) (drawn B) t (gate-count B) k)
 
   -- what a list saves is what the tree's increases are worth in plain gains
@@ -52,7 +52,7 @@ module _ (B : Block) (t : Tree) (tree : IsTree B t) (descending : (g : ℕ) → 
   saving-worth y = saving-earned B y ∙ sym (across-gates (λ (g k : ℕ). sum k (plain (gate-head B) g)) (gate-count B) t y (tree .below) (tree .all))
 
   -- there are as many steps left as steps, or fewer
-  few-steps : (y : List ℕ) → across (gate-left B) t (read t y) ≤ step-count B
+  pub few-steps : (y : List ℕ) → across (gate-left B) t (read t y) ≤ step-count B
   unfolding step-count
   few-steps y =
       le-trans (le-of-eq (across-gates (gate-left B) (gate-count B) t y (tree .below) (tree .all)))

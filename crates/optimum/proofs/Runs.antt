@@ -207,7 +207,7 @@ module _ (n : ℕ) (h : ℕ → ℕ → Head) (heads : Heads n h) where
         ))
 
     -- without a step left there is no head
-    no-steps : (t : Tree) (s : St t) → across left t s ≤ 0 → head h t s .gain ≡ 0
+    pub no-steps : (t : Tree) (s : St t) → across left t s ≤ 0 → head h t s .gain ≡ 0
     no-steps t s l = from (eq-zero-or-pos (head h t s .gain))
       where
         from : (head h t s .gain ≡ 0) ⊎ (0 < head h t s .gain) → head h t s .gain ≡ 0

@@ -26,7 +26,7 @@ use Rattle.sizing.proofs.Handing.{node-head}
 use Rattle.sizing.proofs.Joining.{joined-more}
 
 -- no head is wider than the gates' are
-width-bounded : (h : ℕ → ℕ → Head) (W : ℕ) → ((g k : ℕ) → h g k .width ≤ W) → (t : Tree) (s : St t) → head h t s .width ≤ W
+pub width-bounded : (h : ℕ → ℕ → Head) (W : ℕ) → ((g k : ℕ) → h g k .width ≤ W) → (t : Tree) (s : St t) → head h t s .width ≤ W
 width-bounded h W bound (wire d) s = omega arith
 width-bounded h W bound (series P m Q) s =
     by-item h P m Q s (λ (i : Item). item-head h P m Q s i .width ≤ W) (λ a b. width-bounded h W bound P (s .0)) (λ a b. bound m (s .1))

@@ -17,5 +17,7 @@ pub mod Blocks
 pub mod Joining
 pub mod Curving
 pub mod Bounds
+pub mod Spent
+pub mod Spending
 pub mod Inherited
 pub mod Soundness

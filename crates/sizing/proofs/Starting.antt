@@ -1,4 +1,4 @@
--- From arrays with room to the raised start, and from there to the increases after any number of ticks.
+-- From arrays with room to the raised start, and what can be done there.
 -- Assumes nothing.
 use mathlib.Core.Path.{_≡_, _∙_, sym, ap}
 use mathlib.Core.List.{List}
@@ -9,10 +9,9 @@ use Rattle.model.specs.Limits.{max-steps, max-width}
 use Rattle.optimum.specs.Tree.{St}
 use Rattle.optimum.specs.Head.{Head}
 use Rattle.optimum.specs.Handout.{head}
-use Rattle.optimum.specs.Increases.{ticks-list, sized}
 use Rattle.sizing.specs.Plan.{Plan, most-gates, node-count, part, kind, gate, parent}
 use Rattle.sizing.specs.Stored.{Stored, Room}
-use Rattle.sizing.specs.State.{State, Ready, TickedOut}
+use Rattle.sizing.specs.State.{State, Ready}
 use Rattle.sizing.specs.Raise.{root, Raisable, Raised, Unslowed, Sizable}
 use Rattle.sizing.specs.Pairs.{Curvable}
 use Rattle.sizing.proofs.Locals.{gate-below}
@@ -65,9 +64,6 @@ module _ {P : Plan} {S : State} (able : Sizable P S) where
           node = root-in;
           local = λ k l. raised .local k (omega (arith, able .some-node));
         }
-
-    pub sized-after : {S″ : State} {k : ℕ} → TickedOut P S′ S″ (root P) k → S″ .increases ≡ sized d (P .heads) (part (P .nodes) (root P)) (P .gate-count) k
-    sized-after {S″} {k} out = out .increases ∙ ap (ticks-list (P .heads) (part (P .nodes) (root P)) k) (raised .increases)
 
     -- .. and its runs can be noted
     pub root-curvable : {steps : ℕ} → ((s : St (part (P .nodes) (root P))) → head (P .heads) (part (P .nodes) (root P)) s .gain < 2 ^ 32)

@@ -27,7 +27,7 @@ unfolding run-of
 run-some ticks gain width r d e = rw (ne-eqb gain 0 d) e
 
 -- what a run says: it is none, and there is no head, no width or no tick left; or it fits
-run-zero : (ticks gain width : ℕ) → run-of ticks gain width ≡ 0 → (0 < gain → 0 < width) → (ticks ≡ 0) ⊎ (gain ≡ 0)
+pub run-zero : (ticks gain width : ℕ) → run-of ticks gain width ≡ 0 → (0 < gain → 0 < width) → (ticks ≡ 0) ⊎ (gain ≡ 0)
 unfolding run-of
 run-zero ticks gain width = go (eq-zero-or-pos gain)
   where
@@ -35,7 +35,7 @@ run-zero ticks gain width = go (eq-zero-or-pos gain)
     go (inl z) = λ e wide. inr z
     go (inr p) = rw (ne-eqb gain 0 (λ z. omega arith)) (λ e wide. inl (omega (arith, wide p)))
 
-run-pos : (ticks gain width : ℕ) → 0 < run-of ticks gain width → (0 < gain) × (run-of ticks gain width ≤ ticks) × (run-of ticks gain width ≤ width)
+pub run-pos : (ticks gain width : ℕ) → 0 < run-of ticks gain width → (0 < gain) × (run-of ticks gain width ≤ ticks) × (run-of ticks gain width ≤ width)
 unfolding run-of
 run-pos ticks gain width = go (eq-zero-or-pos gain)
   where

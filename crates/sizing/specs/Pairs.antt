@@ -1,18 +1,20 @@
--- Pairs of a curve in two arrays, and what noting one run more leaves there.
+-- Pairs of a curve in two arrays, and what noting one run more leaves there; and the runs on which so many ticks are spent.
 use mathlib.Core.Path.{_≡_}
 use mathlib.Core.Bool.{cond}
 use mathlib.Core.List.{List, [], _∷_}
-use Prim.Native.Nat.{ℕ, _+_, _*_, _^_, _≤_, _<_}
+use Prim.Native.Nat.{ℕ, zero, suc, _+_, _-_, _*_, _^_, _≤_, _<_}
 use lib.Dec.{eqb}
 use lib.ListN.{getD}
 use Rattle.lists.specs.Over.{build}
 use Rattle.model.specs.Limits.{max-steps, max-width}
 use Rattle.model.specs.Curve.{Pair}
-use Rattle.optimum.specs.Tree.{St}
+use Rattle.optimum.specs.Tree.{Tree, St}
+use Rattle.optimum.specs.Head.{Head}
 use Rattle.optimum.specs.Handout.{head}
+use Rattle.optimum.specs.Increases.{read, give-list}
 use Rattle.optimum.specs.Runs.{runs-list, joined}
 use Rattle.sizing.specs.Plan.{Plan, most-gates, part, parent}
-use Rattle.sizing.specs.State.{State, Ready}
+use Rattle.sizing.specs.State.{State, Ready, run-of}
 
 abbrev pub pair : ℕ → ℕ → Pair
 pair w g = record { width = w; gain = g }
@@ -50,3 +52,26 @@ pub record NodeCurve (P : Plan) (x : List ℕ) (i steps r : ℕ) (widths gains w
   pub few : r ≤ steps
   pub other-widths : (j : ℕ) → r ≤ j → getD widths′ j 0 ≡ getD widths j 0
   pub other-gains : (j : ℕ) → r ≤ j → getD gains′ j 0 ≡ getD gains j 0
+
+-- the ticks of the next run of a part, of `ticks` ticks that are left
+abbrev pub next-run : (ℕ → ℕ → Head) → Tree → ℕ → List ℕ → ℕ
+next-run h t ticks x = run-of ticks (head h t (read t x) .gain) (head h t (read t x) .width)
+
+-- The runs on which `ticks` ticks are spent from the list x on, at most f of them: each as wide as its head, the last no wider than the ticks that are left.
+unfoldable pub spent-runs : (ℕ → ℕ → Head) → Tree → ℕ → ℕ → List ℕ → List Pair
+spent-runs h t zero ticks x = []
+spent-runs h t (suc f) ticks x =
+    cond (eqb (next-run h t ticks x) 0) []
+    (pair (next-run h t ticks x) (head h t (read t x) .gain) ∷ spent-runs h t f (ticks - next-run h t ticks x) (give-list h t (next-run h t ticks x) x))
+
+-- the list after these runs
+unfoldable pub spent-list : (ℕ → ℕ → Head) → Tree → ℕ → ℕ → List ℕ → List ℕ
+spent-list h t zero ticks x = x
+spent-list h t (suc f) ticks x =
+    cond (eqb (next-run h t ticks x) 0) x (spent-list h t f (ticks - next-run h t ticks x) (give-list h t (next-run h t ticks x) x))
+
+-- `ticks` ticks have been spent at node i, on at most `steps` runs: the increases are those after them, and the first r elements of the arrays are the pairs of their curve.
+pub record Spent (P : Plan) (x x′ : List ℕ) (i ticks steps r : ℕ) (widths gains : List ℕ) : Type 0 where
+  pub increases : x′ ≡ spent-list (P .heads) (part (P .nodes) i) steps ticks x
+  pub pairs : pairs-in r widths gains ≡ joined (spent-runs (P .heads) (part (P .nodes) i) steps ticks x)
+  pub few : r ≤ steps

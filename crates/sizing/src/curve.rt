@@ -1,12 +1,13 @@
-// The curve of a node: its runs, each over the whole width of the head, with neighbours of one gain joined.
+// The curve of a node: its runs, each over the whole width of the head, with neighbours of one gain joined; or the runs on which so many ticks are spent.
 use crate::handout::series_give_out;
+use crate::ticks::next_run;
 ghost use mathlib.Core.Path.{_≡_};
 ghost use Prim.Native.Nat.{ℕ, _+_, _-_, _^_, _≤_, _<_};
 ghost use lib.ListN.{length, getD};
 ghost use Rattle.lists.specs.Search.{Says};
 ghost use Rattle.sizing.specs.Plan.{plan, heads-in, StepsLent};
 ghost use Rattle.sizing.specs.State.{state};
-ghost use Rattle.sizing.specs.Pairs.{Noted, Curvable, NodeCurve};
+ghost use Rattle.sizing.specs.Pairs.{Noted, Curvable, NodeCurve, Spent};
 
 // Whether the last of `count` pairs has this gain.
 fn continues(count: usize, gain: u32, pair_gains: &[u32]) -> bool
@@ -102,6 +103,73 @@ pub fn node_curve(
             gains,
             ranks,
         );
+        k += 1;
+    }
+    count
+}
+
+// Hands out `ticks` ticks at node i, run by run, at most `steps` runs, and notes the pairs of their curve. Answers how many pairs there are.
+pub fn spend_ticks(
+    i: usize,
+    ticks: u32,
+    steps: usize,
+    n: u32,
+    kinds: &[u32],
+    lefts: &[u32],
+    gates: &[u32],
+    rights: &[u32],
+    parents: &[u32],
+    counts: &[u32],
+    step_widths: &[u32],
+    drops: &[u32],
+    inputs: &[u32],
+    increases: &mut [u32],
+    gate_widths: &mut [u32],
+    gate_gains: &mut [u64],
+    gate_ranks: &mut [u32],
+    widths: &mut [u32],
+    gains: &mut [u64],
+    ranks: &mut [u32],
+    pair_widths: &mut [u32],
+    pair_gains: &mut [u32],
+) -> usize
+    requires { ⌜ Curvable (plan n (now kinds) (now lefts) (now gates) (now rights) (now parents) (heads-in n (now counts) (now «step_widths») (now drops) (now inputs))) (state (now increases) (now «gate_widths») (now «gate_gains») (now «gate_ranks») (now widths) (now gains) (now ranks)) i steps ⌝ }
+    requires { ⌜ StepsLent n (now counts) (now «step_widths») (now drops) (now inputs) ⌝ }
+    requires { ⌜ (steps ≤ length (now «pair_widths»)) × (steps ≤ length (now «pair_gains»)) ⌝ }
+    ensures { λ r. ⌜ Spent (plan n (now (kinds .entry)) (now (lefts .entry)) (now (gates .entry)) (now (rights .entry)) (now (parents .entry)) (heads-in n (now (counts .entry)) (now («step_widths» .entry)) (now (drops .entry)) (now (inputs .entry)))) (now (increases .entry)) (now (increases .exit)) i ticks steps r (now («pair_widths» .exit)) (now («pair_gains» .exit)) ⌝ }
+{
+    let mut left = ticks;
+    let mut count: usize = 0;
+    let mut k: usize = 0;
+    while k < steps {
+        let gain = gains[i];
+        let run = next_run(left, gain, widths[i]);
+        if run == 0 {
+            return count;
+        }
+        count = note(count, run, gain as u32, pair_widths, pair_gains);
+        series_give_out(
+            i,
+            run,
+            n,
+            kinds,
+            lefts,
+            gates,
+            rights,
+            parents,
+            counts,
+            step_widths,
+            drops,
+            inputs,
+            increases,
+            gate_widths,
+            gate_gains,
+            gate_ranks,
+            widths,
+            gains,
+            ranks,
+        );
+        left -= run;
         k += 1;
     }
     count

@@ -6,7 +6,7 @@ ghost use Rattle.sizing.specs.Plan.{plan, heads-in, parent, StepsLent};
 ghost use Rattle.sizing.specs.State.{state, run-of, Ready, TickedOut};
 
 // How many ticks the next run has: as many as are left, at most the width of the head; none without a head.
-fn next_run(ticks: u32, gain: u64, width: u32) -> u32
+pub fn next_run(ticks: u32, gain: u64, width: u32) -> u32
     ensures { λ r. ⌜ r ≡ run-of ticks gain width ⌝ }
 {
     if gain == 0 {

@@ -1,10 +1,10 @@
--- `sizing::best::start` meets its contract: heads of gates without increase, lengths, then raising. Assumes nothing.
+-- `sizing::start::start` meets its contract: heads of gates without increase, lengths, then raising. Assumes nothing.
 use mathlib.Core.Path.{_∙_}
 use native.Mathlib.Omega.{arith}
 use Rattle.sizing.proofs.Measuring.{room-same}
 use Rattle.sizing.proofs.Starting.{raisable}
-use Rattle.sizing.proofs.best.start.Statement.{statement}
-use Rattle.sizing.proofs.best.start.Tie as tie
+use Rattle.sizing.proofs.start.start.Statement.{statement}
+use Rattle.sizing.proofs.start.start.Tie as tie
 
 unslowed-heads-requires : tie.Need-unslowed-heads-requires
 unslowed-heads-requires c κs = (c .before .before .before .before .before .before .before .before .before .before .before .before .before .before .before .before .before .before .before .before .before .before .pre .1 .0, (omega (arith, c .before .before .before .before .before .before .before .before .before .before .before .before .before .before .before .before .before .before .before .before .before .before .pre .0 .one-each), c .before .before .before .before .before .before .before .before .before .before .before .before .before .before .before .before .before .before .before .before .before .before .pre .0 .gate-room))

@@ -1,0 +1,68 @@
+// The raised start, from which ticks are handed out. The array `lengths` is scratch.
+use crate::gate::unslowed_heads;
+use crate::length::part_lengths;
+use crate::raise::raise_and_fill;
+ghost use Rattle.sizing.specs.Plan.{plan, nodes-in, heads-in, StepsLent};
+ghost use Rattle.sizing.specs.State.{state};
+ghost use Rattle.sizing.specs.Raise.{Measurable, Raised, Sizable, delays-in};
+
+// The increases of the raised start, and all heads with them.
+pub fn start(
+    n: u32,
+    kinds: &[u32],
+    lefts: &[u32],
+    gates: &[u32],
+    rights: &[u32],
+    parents: &[u32],
+    counts: &[u32],
+    step_widths: &[u32],
+    drops: &[u32],
+    inputs: &[u32],
+    delays: &[u32],
+    lengths: &mut [u32],
+    increases: &mut [u32],
+    gate_widths: &mut [u32],
+    gate_gains: &mut [u64],
+    gate_ranks: &mut [u32],
+    widths: &mut [u32],
+    gains: &mut [u64],
+    ranks: &mut [u32],
+)
+    requires { ⌜ Sizable (plan n (now kinds) (now lefts) (now gates) (now rights) (now parents) (heads-in n (now counts) (now «step_widths») (now drops) (now inputs))) (state (now increases) (now «gate_widths») (now «gate_gains») (now «gate_ranks») (now widths) (now gains) (now ranks)) ⌝ }
+    requires { ⌜ StepsLent n (now counts) (now «step_widths») (now drops) (now inputs) ⌝ }
+    requires { ⌜ Measurable (nodes-in (now kinds) (now lefts) (now gates) (now rights)) (now delays) (now lengths) ⌝ }
+    ensures { λ r. ⌜ Raised (plan n (now (kinds .entry)) (now (lefts .entry)) (now (gates .entry)) (now (rights .entry)) (now (parents .entry)) (heads-in n (now (counts .entry)) (now («step_widths» .entry)) (now (drops .entry)) (now (inputs .entry)))) (delays-in (now (delays .entry))) (state (now (increases .exit)) (now («gate_widths» .exit)) (now («gate_gains» .exit)) (now («gate_ranks» .exit)) (now (widths .exit)) (now (gains .exit)) (now (ranks .exit))) ⌝ }
+{
+    unslowed_heads(
+        n,
+        counts,
+        step_widths,
+        drops,
+        inputs,
+        increases,
+        gate_widths,
+        gate_gains,
+        gate_ranks,
+    );
+    part_lengths(kinds, lefts, gates, rights, delays, lengths);
+    raise_and_fill(
+        n,
+        kinds,
+        lefts,
+        gates,
+        rights,
+        parents,
+        counts,
+        step_widths,
+        drops,
+        inputs,
+        &*lengths,
+        increases,
+        gate_widths,
+        gate_gains,
+        gate_ranks,
+        widths,
+        gains,
+        ranks,
+    );
+}
