@@ -119,7 +119,7 @@ pub fn series_give_out(
     );
 }
 
-// Hands out w ticks at parallel node i, to both of its sides. Its own head is left for the caller to renew.
+// Hands out w ticks at parallel node i, to those of its sides that have a head. Its own head is left for the caller to renew.
 pub fn parallel_give_out(
     i: usize,
     w: u32,
@@ -147,8 +147,34 @@ pub fn parallel_give_out(
     requires { ⌜ Fitting (state (now increases) (now «gate_widths») (now «gate_gains») (now «gate_ranks») (now widths) (now gains) (now ranks)) i w ⌝ }
     ensures { λ r. ⌜ GivenOut (plan n (now (kinds .entry)) (now (lefts .entry)) (now (gates .entry)) (now (rights .entry)) (now (parents .entry)) (heads-in n (now (counts .entry)) (now («step_widths» .entry)) (now (drops .entry)) (now (inputs .entry)))) (state (now (increases .entry)) (now («gate_widths» .entry)) (now («gate_gains» .entry)) (now («gate_ranks» .entry)) (now (widths .entry)) (now (gains .entry)) (now (ranks .entry))) (state (now (increases .exit)) (now («gate_widths» .exit)) (now («gate_gains» .exit)) (now («gate_ranks» .exit)) (now (widths .exit)) (now (gains .exit)) (now (ranks .exit))) i w i ⌝ }
 {
+    let left = index(lefts[i]);
+    let right = index(rights[i]);
+    if gains[left] == 0 {
+        series_give_out(
+            right,
+            w,
+            n,
+            kinds,
+            lefts,
+            gates,
+            rights,
+            parents,
+            counts,
+            step_widths,
+            drops,
+            inputs,
+            increases,
+            gate_widths,
+            gate_gains,
+            gate_ranks,
+            widths,
+            gains,
+            ranks,
+        );
+        return;
+    }
     series_give_out(
-        index(lefts[i]),
+        left,
         w,
         n,
         kinds,
@@ -168,8 +194,11 @@ pub fn parallel_give_out(
         gains,
         ranks,
     );
+    if gains[right] == 0 {
+        return;
+    }
     series_give_out(
-        index(rights[i]),
+        right,
         w,
         n,
         kinds,
