@@ -52,9 +52,9 @@ module _ {B : Block} {n : ℕ} {A : TreeArrays} (h : TreeHeld B n A) where
       )
 
   -- ticks spent from the raised start on
-  module _ {x x′ ws gs : List ℕ} {s r ticks saved counted : ℕ} (at-start : x ≡ increases B (block-tree B (h .fits)) 0)
+  module _ {x x′ old-ws old-gs ws gs : List ℕ} {s r ticks saved counted : ℕ} (at-start : x ≡ increases B (block-tree B (h .fits)) 0)
       (steps : s ≡ sum n (λ (g : ℕ). getD (A .counts) g 0)) (saves : ListSaving n (A .counts) (A .step-widths) (A .drops) (A .inputs) x saved)
-      (spent : Spent (plan-of h) x x′ (root (plan-of h)) ticks s r ws gs) (off : counted ≡ count-off (pairs-in r ws gs) ticks) where
+      (spent : Spent (plan-of h) x x′ (root (plan-of h)) ticks s r old-ws old-gs ws gs) (off : counted ≡ count-off (pairs-in r ws gs) ticks) where
     list-after : x′ ≡ increases B (block-tree B (h .fits)) ticks
     list-after =
         spent .increases

@@ -2,7 +2,6 @@
 use curve::count::count_off;
 use gains::saving::list_saving;
 use network::marking::at;
-use sizing::curve::node_curve;
 use sizing::curve::spend_ticks;
 use sizing::start::start;
 ghost use mathlib.Core.Path.{_≡_};
@@ -18,6 +17,9 @@ pub struct TreeCurve {
     pub saving: u64,
     pub pairs: usize,
 }
+
+// More ticks than all steps of a block have.
+const ALL_TICKS: u32 = 4_294_967_295;
 
 // How many steps n gates have together.
 fn step_count(n: usize, counts: &[u32]) -> usize
@@ -85,8 +87,9 @@ pub fn tree_curve(
     );
     let saving = list_saving(n as usize, counts, step_widths, drops, inputs, &*increases);
     let steps = step_count(n as usize, counts);
-    let pairs = node_curve(
+    let pairs = spend_ticks(
         kinds.len() - 1,
+        ALL_TICKS,
         steps,
         n,
         kinds,

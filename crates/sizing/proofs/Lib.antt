@@ -15,7 +15,6 @@ pub mod Measuring
 pub mod Starting
 pub mod Blocks
 pub mod Joining
-pub mod Curving
 pub mod Bounds
 pub mod Spent
 pub mod Spending

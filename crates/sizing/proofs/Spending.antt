@@ -22,10 +22,10 @@ use Rattle.sizing.specs.Pairs.{pair, pairs-in, extend, next-run, spent-r
 use Rattle.sizing.proofs.Handing.{node-head}
 use Rattle.sizing.proofs.Ticking.{run-pos}
 use Rattle.sizing.proofs.Joining.{joined-more}
-use Rattle.sizing.proofs.Curving.{width-bounded}
+use Rattle.sizing.proofs.Spent.{width-bounded}
 
 -- after k runs, `left` of `ticks` ticks are still to be spent, and c pairs stand in the arrays
-pub record Spending (P : Plan) (x₀ : List ℕ) (i ticks steps left c k : ℕ) (S : State) (widths gains : List ℕ) : Type 0 where
+pub record Spending (P : Plan) (x₀ : List ℕ) (i ticks steps left c k : ℕ) (widths₀ gains₀ : List ℕ) (S : State) (widths gains : List ℕ) : Type 0 where
   pub ready : Ready P S i
   pub past : List Pair
   pub all-runs : spent-runs (P .heads) (part (P .nodes) i) steps ticks x₀ ≡ past ++ spent-runs (P .heads) (part (P .nodes) i) (steps - k) left (S .increases)
@@ -34,9 +34,11 @@ pub record Spending (P : Plan) (x₀ : List ℕ) (i ticks steps left c k : ℕ) 
   pub within : k ≤ steps
   pub few : c ≤ k
   pub wide : (j : ℕ) → j < c → getD widths j 0 ≤ k * max-width
+  pub other-widths : (j : ℕ) → c ≤ j → getD widths j 0 ≡ getD widths₀ j 0
+  pub other-gains : (j : ℕ) → c ≤ j → getD gains j 0 ≡ getD gains₀ j 0
 
 pub spending-starts : {P : Plan} {S : State} {i steps : ℕ} → Curvable P S i steps → (ticks : ℕ) (widths gains : List ℕ)
-    → Spending P (S .increases) i ticks steps ticks 0 0 S widths gains
+    → Spending P (S .increases) i ticks steps ticks 0 0 widths gains S widths gains
 unfolding build joined
 spending-starts {P} {S} {i} {steps} able ticks widths gains =
     let e : steps - 0 ≡ steps = omega arith in
@@ -49,10 +51,12 @@ spending-starts {P} {S} {i} {steps} able ticks widths gains =
       within = omega arith;
       few = omega arith;
       wide = λ j l. absurd (omega arith);
+      other-widths = λ j l. refl;
+      other-gains = λ j l. refl;
     }
 
-module _ {P : Plan} {S₀ : State} {i steps : ℕ} (able : Curvable P S₀ i steps) {x₀ : List ℕ} {ticks left c k : ℕ} {S : State} {widths gains : List ℕ}
-    (on : Spending P x₀ i ticks steps left c k S widths gains) where
+module _ {P : Plan} {S₀ : State} {i steps : ℕ} (able : Curvable P S₀ i steps) {x₀ : List ℕ} {ticks left c k : ℕ} {widths₀ gains₀ : List ℕ} {S : State}
+    {widths gains : List ℕ} (on : Spending P x₀ i ticks steps left c k widths₀ gains₀ S widths gains) where
   abbrev t : Tree
   t = part (P .nodes) i
 
@@ -68,16 +72,18 @@ module _ {P : Plan} {S₀ : State} {i steps : ℕ} (able : Curvable P S₀ i ste
       omega (arith, width-bounded (P .heads) max-width (able .widths) t (read t (S .increases)))
 
   done : on .past ++ spent-runs (P .heads) t (steps - k) left (S .increases) ≡ on .past → spent-list (P .heads) t (steps - k) left (S .increases) ≡ S .increases
-      → Spent P x₀ (S .increases) i ticks steps c widths gains
+      → Spent P x₀ (S .increases) i ticks steps c widths₀ gains₀ widths gains
   done e same =
       record {
         increases = sym same ∙ on .leads-there;
         pairs = on .noted ∙ ap joined (sym (on .all-runs ∙ e));
         few = omega (arith, on .few, on .within);
+        other-widths = on .other-widths;
+        other-gains = on .other-gains;
       }
 
   -- all runs are noted
-  pub spending-full : steps ≤ k → Spent P x₀ (S .increases) i ticks steps c widths gains
+  pub spending-full : steps ≤ k → Spent P x₀ (S .increases) i ticks steps c widths₀ gains₀ widths gains
   unfolding spent-runs spent-list
   spending-full l =
       let e : steps - k ≡ 0 = omega (arith, on .within) in
@@ -89,7 +95,7 @@ module _ {P : Plan} {S₀ : State} {i steps : ℕ} (able : Curvable P S₀ i ste
     is-next = sym (is ∙ ap (λ (a : Head). run-of left (a .gain) (a .width)) stored-head)
 
     -- no tick is left, or no head
-    pub spending-ends : run ≡ 0 → Spent P x₀ (S .increases) i ticks steps c widths gains
+    pub spending-ends : run ≡ 0 → Spent P x₀ (S .increases) i ticks steps c widths₀ gains₀ widths gains
     unfolding spent-runs spent-list
     spending-ends z = done (ap (λ (L : List Pair). on .past ++ L) (no-runs (steps - k)) ∙ append-nil (on .past)) (no-change (steps - k))
       where
@@ -117,7 +123,7 @@ module _ {P : Plan} {S₀ : State} {i steps : ℕ} (able : Curvable P S₀ i ste
       widths-fit j l = omega (arith, on .wide j l, fits .2, width-small, on .within, able .few)
 
       pub spending-on : {r : ℕ} {widths′ gains′ : List ℕ} {g : ℕ} → g ≡ head-at (S .nodes) i .gain → Noted c r widths gains widths′ gains′ run g → k < steps
-          → {S′ : State} → GivenOut P S S′ i run (parent (P .parents) i) → Spending P x₀ i ticks steps (left - run) r (k + 1) S′ widths′ gains′
+          → {S′ : State} → GivenOut P S S′ i run (parent (P .parents) i) → Spending P x₀ i ticks steps (left - run) r (k + 1) widths₀ gains₀ S′ widths′ gains′
       unfolding spent-runs spent-list
       spending-on {r} {widths′} {gains′} {g} eg new l {S′} given =
           record {
@@ -135,6 +141,8 @@ module _ {P : Plan} {S₀ : State} {i steps : ℕ} (able : Curvable P S₀ i ste
             within = omega arith;
             few = omega (arith, on .few, new .few);
             wide = λ j b. omega (arith, new .wide (k * max-width) (on .wide) j b, fits .2, width-small);
+            other-widths = λ j b. new .other-widths j b ∙ on .other-widths j (omega (arith, new .no-fewer));
+            other-gains = λ j b. new .other-gains j b ∙ on .other-gains j (omega (arith, new .no-fewer));
           }
         where
           f : steps - k ≡ suc (steps - (k + 1))

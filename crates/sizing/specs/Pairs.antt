@@ -70,8 +70,10 @@ spent-list h t zero ticks x = x
 spent-list h t (suc f) ticks x =
     cond (eqb (next-run h t ticks x) 0) x (spent-list h t f (ticks - next-run h t ticks x) (give-list h t (next-run h t ticks x) x))
 
--- `ticks` ticks have been spent at node i, on at most `steps` runs: the increases are those after them, and the first r elements of the arrays are the pairs of their curve.
-pub record Spent (P : Plan) (x x′ : List ℕ) (i ticks steps r : ℕ) (widths gains : List ℕ) : Type 0 where
+-- `ticks` ticks have been spent at node i, on at most `steps` runs: the increases are those after them, and the first r elements of the arrays are the pairs of their curve; the others are as before.
+pub record Spent (P : Plan) (x x′ : List ℕ) (i ticks steps r : ℕ) (widths gains widths′ gains′ : List ℕ) : Type 0 where
   pub increases : x′ ≡ spent-list (P .heads) (part (P .nodes) i) steps ticks x
-  pub pairs : pairs-in r widths gains ≡ joined (spent-runs (P .heads) (part (P .nodes) i) steps ticks x)
+  pub pairs : pairs-in r widths′ gains′ ≡ joined (spent-runs (P .heads) (part (P .nodes) i) steps ticks x)
   pub few : r ≤ steps
+  pub other-widths : (j : ℕ) → r ≤ j → getD widths′ j 0 ≡ getD widths j 0
+  pub other-gains : (j : ℕ) → r ≤ j → getD gains′ j 0 ≡ getD gains j 0

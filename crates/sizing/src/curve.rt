@@ -1,4 +1,4 @@
-// The curve of a node: its runs, each over the whole width of the head, with neighbours of one gain joined; or the runs on which so many ticks are spent.
+// Ticks spent at a node run by run, and the curve of the runs: neighbours of one gain are joined. With ticks for all steps it is the curve of the node.
 use crate::handout::series_give_out;
 use crate::ticks::next_run;
 ghost use mathlib.Core.Path.{_≡_};
@@ -7,7 +7,7 @@ ghost use lib.ListN.{length, getD};
 ghost use Rattle.lists.specs.Search.{Says};
 ghost use Rattle.sizing.specs.Plan.{plan, heads-in, StepsLent};
 ghost use Rattle.sizing.specs.State.{state};
-ghost use Rattle.sizing.specs.Pairs.{Noted, Curvable, NodeCurve, Spent};
+ghost use Rattle.sizing.specs.Pairs.{Noted, Curvable, Spent};
 
 // Whether the last of `count` pairs has this gain.
 fn continues(count: usize, gain: u32, pair_gains: &[u32]) -> bool
@@ -44,70 +44,6 @@ fn note(
     count + 1
 }
 
-// Hands out whole runs at node i, at most `steps` of them, and notes the pairs of their curve. Answers how many pairs there are.
-pub fn node_curve(
-    i: usize,
-    steps: usize,
-    n: u32,
-    kinds: &[u32],
-    lefts: &[u32],
-    gates: &[u32],
-    rights: &[u32],
-    parents: &[u32],
-    counts: &[u32],
-    step_widths: &[u32],
-    drops: &[u32],
-    inputs: &[u32],
-    increases: &mut [u32],
-    gate_widths: &mut [u32],
-    gate_gains: &mut [u64],
-    gate_ranks: &mut [u32],
-    widths: &mut [u32],
-    gains: &mut [u64],
-    ranks: &mut [u32],
-    pair_widths: &mut [u32],
-    pair_gains: &mut [u32],
-) -> usize
-    requires { ⌜ Curvable (plan n (now kinds) (now lefts) (now gates) (now rights) (now parents) (heads-in n (now counts) (now «step_widths») (now drops) (now inputs))) (state (now increases) (now «gate_widths») (now «gate_gains») (now «gate_ranks») (now widths) (now gains) (now ranks)) i steps ⌝ }
-    requires { ⌜ StepsLent n (now counts) (now «step_widths») (now drops) (now inputs) ⌝ }
-    requires { ⌜ (steps ≤ length (now «pair_widths»)) × (steps ≤ length (now «pair_gains»)) ⌝ }
-    ensures { λ r. ⌜ NodeCurve (plan n (now (kinds .entry)) (now (lefts .entry)) (now (gates .entry)) (now (rights .entry)) (now (parents .entry)) (heads-in n (now (counts .entry)) (now («step_widths» .entry)) (now (drops .entry)) (now (inputs .entry)))) (now (increases .entry)) i steps r (now («pair_widths» .entry)) (now («pair_gains» .entry)) (now («pair_widths» .exit)) (now («pair_gains» .exit)) ⌝ }
-{
-    let mut count: usize = 0;
-    let mut k: usize = 0;
-    while k < steps {
-        let gain = gains[i];
-        if gain == 0 {
-            return count;
-        }
-        let width = widths[i];
-        count = note(count, width, gain as u32, pair_widths, pair_gains);
-        series_give_out(
-            i,
-            width,
-            n,
-            kinds,
-            lefts,
-            gates,
-            rights,
-            parents,
-            counts,
-            step_widths,
-            drops,
-            inputs,
-            increases,
-            gate_widths,
-            gate_gains,
-            gate_ranks,
-            widths,
-            gains,
-            ranks,
-        );
-        k += 1;
-    }
-    count
-}
-
 // Hands out `ticks` ticks at node i, run by run, at most `steps` runs, and notes the pairs of their curve. Answers how many pairs there are.
 pub fn spend_ticks(
     i: usize,
@@ -136,7 +72,7 @@ pub fn spend_ticks(
     requires { ⌜ Curvable (plan n (now kinds) (now lefts) (now gates) (now rights) (now parents) (heads-in n (now counts) (now «step_widths») (now drops) (now inputs))) (state (now increases) (now «gate_widths») (now «gate_gains») (now «gate_ranks») (now widths) (now gains) (now ranks)) i steps ⌝ }
     requires { ⌜ StepsLent n (now counts) (now «step_widths») (now drops) (now inputs) ⌝ }
     requires { ⌜ (steps ≤ length (now «pair_widths»)) × (steps ≤ length (now «pair_gains»)) ⌝ }
-    ensures { λ r. ⌜ Spent (plan n (now (kinds .entry)) (now (lefts .entry)) (now (gates .entry)) (now (rights .entry)) (now (parents .entry)) (heads-in n (now (counts .entry)) (now («step_widths» .entry)) (now (drops .entry)) (now (inputs .entry)))) (now (increases .entry)) (now (increases .exit)) i ticks steps r (now («pair_widths» .exit)) (now («pair_gains» .exit)) ⌝ }
+    ensures { λ r. ⌜ Spent (plan n (now (kinds .entry)) (now (lefts .entry)) (now (gates .entry)) (now (rights .entry)) (now (parents .entry)) (heads-in n (now (counts .entry)) (now («step_widths» .entry)) (now (drops .entry)) (now (inputs .entry)))) (now (increases .entry)) (now (increases .exit)) i ticks steps r (now («pair_widths» .entry)) (now («pair_gains» .entry)) (now («pair_widths» .exit)) (now («pair_gains» .exit)) ⌝ }
 {
     let mut left = ticks;
     let mut count: usize = 0;

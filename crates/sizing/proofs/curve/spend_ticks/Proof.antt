@@ -11,7 +11,7 @@ use Rattle.sizing.proofs.curve.spend_ticks.Statement.{statement}
 use Rattle.sizing.proofs.curve.spend_ticks.Tie as tie
 
 abbrev Inv-loop : tie.InvT-loop
-Inv-loop i ticks steps n kinds lefts gates rights parents counts sws drops inputs x₀ gw₀ gg₀ gr₀ ws₀ gs₀ rs₀ pw₀ pg₀ left₀ count₀ k₀ x gw gg gr ws gs rs pw pg left count k = (length x ≡ length x₀) × (length gw ≡ length gw₀) × (length gg ≡ length gg₀) × (length gr ≡ length gr₀) × (length ws ≡ length ws₀) × (length gs ≡ length gs₀) × (length rs ≡ length rs₀) × (length pw ≡ length pw₀) × (length pg ≡ length pg₀) × Spending (plan n kinds lefts gates rights parents (heads-in n counts sws drops inputs)) x₀ i ticks steps left count k (state x gw gg gr ws gs rs) pw pg
+Inv-loop i ticks steps n kinds lefts gates rights parents counts sws drops inputs x₀ gw₀ gg₀ gr₀ ws₀ gs₀ rs₀ pw₀ pg₀ left₀ count₀ k₀ x gw gg gr ws gs rs pw pg left count k = (length x ≡ length x₀) × (length gw ≡ length gw₀) × (length gg ≡ length gg₀) × (length gr ≡ length gr₀) × (length ws ≡ length ws₀) × (length gs ≡ length gs₀) × (length rs ≡ length rs₀) × (length pw ≡ length pw₀) × (length pg ≡ length pg₀) × Spending (plan n kinds lefts gates rights parents (heads-in n counts sws drops inputs)) x₀ i ticks steps left count k pw₀ pg₀ (state x gw gg gr ws gs rs) pw pg
 
 abbrev μ-loop : tie.MeasureT-loop
 μ-loop i ticks steps n kinds lefts gates rights parents counts sws drops inputs x₀ gw₀ gg₀ gr₀ ws₀ gs₀ rs₀ pw₀ pg₀ left₀ count₀ k₀ x gw gg gr ws gs rs pw pg left count k = steps - k
