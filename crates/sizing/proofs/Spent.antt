@@ -75,7 +75,7 @@ module _ (n : ℕ) (h : ℕ → ℕ → Head) (heads : Heads n h) (t : Tree) whe
       go (inr p) (inr q) (inr l) = rest p q l (is k p (omega arith))
 
   -- the ticks earn on the runs on which they are spent what they earn on the whole ones
-  pub spent-counts : (f k : ℕ) (x : List ℕ) → count-off (spent-runs h t f k x) k ≡ count-off (runs-list h t f x) k
+  spent-counts : (f k : ℕ) (x : List ℕ) → count-off (spent-runs h t f k x) k ≡ count-off (runs-list h t f x) k
   unfolding spent-runs runs-list count-off
   spent-counts zero k x = refl
   spent-counts (suc f) k x =
@@ -92,7 +92,7 @@ module _ (n : ℕ) (h : ℕ → ℕ → Head) (heads : Heads n h) (t : Tree) whe
       (omega arith) (omega arith)))))
 
   -- with ticks for f runs of the greatest width, the runs are whole
-  pub spent-whole : (W : ℕ) → ((g k : ℕ) → h g k .width ≤ W) → (f k : ℕ) (x : List ℕ) → f * W ≤ k → spent-runs h t f k x ≡ runs-list h t f x
+  spent-whole : (W : ℕ) → ((g k : ℕ) → h g k .width ≤ W) → (f k : ℕ) (x : List ℕ) → f * W ≤ k → spent-runs h t f k x ≡ runs-list h t f x
   unfolding spent-runs runs-list
   spent-whole W bound zero k x l = refl
   spent-whole W bound (suc f) k x l =
@@ -123,7 +123,7 @@ module _ (n : ℕ) (h : ℕ → ℕ → Head) (heads : Heads n h) (t : Tree) whe
     give-ticks (suc w) x placed p q l = give-list-is-ticks n h heads t w x once placed p l
 
     -- with room for as many runs as there are steps, the list is that after k ticks
-    pub spent-all : (f k : ℕ) (x : List ℕ) → Placed t x → across left t (read t x) ≤ f → spent-list h t f k x ≡ ticks-list h t k x
+    spent-all : (f k : ℕ) (x : List ℕ) → Placed t x → across left t (read t x) ≤ f → spent-list h t f k x ≡ ticks-list h t k x
     unfolding spent-list
     spent-all zero k x placed few = sym (ticks-list-none n h heads t k x once placed (no-steps n h heads left steps t (read t x) few))
     spent-all (suc f) k x placed few =

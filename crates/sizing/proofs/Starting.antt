@@ -17,10 +17,10 @@ use Rattle.sizing.specs.Pairs.{Curvable}
 use Rattle.sizing.proofs.Locals.{gate-below}
 
 module _ {P : Plan} {S : State} (able : Sizable P S) where
-  pub root-in : root P < node-count (P .nodes)
+  root-in : root P < node-count (P .nodes)
   root-in = omega (arith, able .some-node)
 
-  pub root-above : root P < parent (P .parents) (root P)
+  root-above : root P < parent (P .parents) (root P)
   root-above = able .above (root P) root-in
 
   pub raisable : {x : List ℕ} {G : Stored} → Unslowed (P .heads) (P .gate-count) x G → length x ≡ length (S .increases)
@@ -55,7 +55,7 @@ module _ {P : Plan} {S : State} (able : Sizable P S) where
 
   module _ {d : ℕ → ℕ} {S′ : State} (raised : Raised P d S′) where
     -- at the raised start ticks can be handed out at the root
-    pub root-ready : Ready P S′ (root P)
+    root-ready : Ready P S′ (root P)
     root-ready =
         record {
           sound = able .sound;

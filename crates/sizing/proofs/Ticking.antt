@@ -27,7 +27,7 @@ unfolding run-of
 run-some ticks gain width r d e = rw (ne-eqb gain 0 d) e
 
 -- what a run says: it is none, and there is no head, no width or no tick left; or it fits
-pub run-zero : (ticks gain width : ℕ) → run-of ticks gain width ≡ 0 → (0 < gain → 0 < width) → (ticks ≡ 0) ⊎ (gain ≡ 0)
+run-zero : (ticks gain width : ℕ) → run-of ticks gain width ≡ 0 → (0 < gain → 0 < width) → (ticks ≡ 0) ⊎ (gain ≡ 0)
 unfolding run-of
 run-zero ticks gain width = go (eq-zero-or-pos gain)
   where
