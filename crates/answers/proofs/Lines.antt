@@ -11,16 +11,16 @@ use lib.Signed.{_<ℤ_}
 use Rattle.lists.specs.Over.{over}
 use Rattle.lists.proofs.Over.{getD-over-front}
 use Rattle.model.specs.Limits.{max-pairs, max-gain}
-use Rattle.model.specs.Block.{Block, gate-count}
+use Rattle.model.specs.Block.{Block}
 use Rattle.model.specs.Part.{SeriesParallel}
 use Rattle.model.specs.Curve.{Pair}
 use Rattle.model.specs.Slack.{start, spare}
-use Rattle.model.specs.Answer.{accepted, refusal, Outcome, Line, fits, passes, At, Slices, curve, CurveLines, best, BestLines}
+use Rattle.model.specs.Answer.{accepted, refusal, Outcome, Line, fits, passes, At, curve, CurveLines, best, BestLines}
 use Rattle.model.proofs.Source.{Along}
 use Rattle.model.proofs.Slack.{late-is}
 use Rattle.blockfile.specs.Held.{GateArrays, WireArrays}
 use Rattle.loading.specs.HeldFile.{HeldFile}
-use Rattle.optimum.specs.BlockTree.{block-tree, start-of, increases, pairs-of}
+use Rattle.optimum.specs.BlockTree.{block-tree, start-of, pairs-of}
 use Rattle.optimum.proofs.Optimum as Optimum
 use Rattle.shaping.proofs.Facts.{join, descending}
 use Rattle.answers.specs.declared.tree.TreeCurve.{TreeCurve}

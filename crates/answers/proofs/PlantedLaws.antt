@@ -1,6 +1,6 @@
 -- Once the tree of a held file's block is planted and its input activities are found, the block with its tree is in the arrays (`tree-held`).
 -- Assumes nothing.
-use mathlib.Core.Path.{_≡_, refl, sym, _∙_, ap, subst}
+use mathlib.Core.Path.{_≡_, sym, _∙_, ap, subst}
 use mathlib.Core.List.{List}
 use Prim.Native.Nat.{ℕ, _-_, _≤_, _<_}
 use native.Mathlib.Omega.{arith}
@@ -8,7 +8,7 @@ use lib.ListN.{length, getD, take}
 use lib.Seq.{length-take-le, getD-take}
 use Rattle.lists.proofs.Over.{build-same}
 use Rattle.model.specs.Limits.{max-gates}
-use Rattle.model.specs.Block.{Gate, Block, gate-count}
+use Rattle.model.specs.Block.{Gate, Block}
 use Rattle.model.specs.InTime.{drawn}
 use Rattle.model.specs.Slack.{start}
 use Rattle.model.specs.Arrays.{gate-at}

@@ -1,6 +1,6 @@
 -- What a block whose tree stands in node arrays gives the functions of sizing: all that they ask, and what their results are to the block.
 -- Assumes nothing.
-use mathlib.Core.Path.{_≡_, refl, sym, _∙_, ap, subst}
+use mathlib.Core.Path.{_≡_, refl, sym, _∙_, ap}
 use mathlib.Core.Logic.{_⊎_, inl, inr}
 use mathlib.Core.List.{List, map}
 use Prim.Native.Nat.{ℕ, _+_, _-_, _*_, _^_, _≤_, _<_, max}
@@ -15,8 +15,8 @@ use Rattle.lists.proofs.Over.{length-build, getD-build, length-over, getD-over-
 use Rattle.lists.proofs.Compare.{le-or-lt}
 use Rattle.model.specs.Limits.{max-gates, max-steps, max-width, max-pairs, max-activity, max-drop}
 use Rattle.model.specs.Block.{Block, gate, gate-count}
-use Rattle.model.specs.Gain.{saving, input-activity}
-use Rattle.model.specs.Curve.{Pair, count-off}
+use Rattle.model.specs.Gain.{saving}
+use Rattle.model.specs.Curve.{Pair}
 use Rattle.model.specs.InTime.{no-increase}
 use Rattle.gains.specs.Steps as Gains
 use Rattle.gains.specs.Savings.{Earnable, ListSaving, most-of-gate}
@@ -24,28 +24,25 @@ use Rattle.gains.proofs.Sums.{sum-constant}
 use Rattle.gains.proofs.Held.{held-lent, held-steps}
 use Rattle.gains.proofs.Sources.{input-most}
 use Rattle.gains.proofs.Earnings.{block-earnable}
-use Rattle.optimum.specs.Tree.{Tree, St, count, zeros, longest}
+use Rattle.optimum.specs.Tree.{Tree, St, count}
 use Rattle.optimum.specs.Head.{Head}
 use Rattle.optimum.specs.Handout.{head}
 use Rattle.optimum.specs.Gates.{gate-head}
 use Rattle.optimum.specs.Increases.{sized}
-use Rattle.optimum.specs.BlockTree.{block-tree, start-of, increases, step-count, pairs-of, IsTree}
+use Rattle.optimum.specs.BlockTree.{block-tree, increases, step-count, pairs-of, IsTree}
 use Rattle.optimum.proofs.BlockTree.{block-is-tree}
-use Rattle.optimum.proofs.Curve.{saving-after, pairs-few}
 use Rattle.optimum.proofs.Range.{block-gain}
-use Rattle.sizing.specs.Plan.{Plan, plan, node-count, part, kind, gate as gate-of, parent, heads-in, steps-in, Sound, StepsLent, most-gates}
+use Rattle.sizing.specs.Plan.{Plan, plan, part, parent, heads-in, Sound, StepsLent}
 use Rattle.sizing.specs.Stored.{Stored, Room}
-use Rattle.sizing.specs.State.{State}
 use Rattle.sizing.specs.Raise.{root, delays-in, Measurable, Raised, Sizable}
 use Rattle.sizing.specs.Pairs.{pair, pairs-in, Curvable, NodeCurve}
-use Rattle.sizing.proofs.Blocks.{Held, as-many, heads-are, delays-are, heads-sound, increases-are, pairs-are}
+use Rattle.sizing.proofs.Blocks.{Held, as-many, heads-are, heads-sound, increases-are, pairs-are}
 use Rattle.sizing.proofs.Bounds.{gains-small, widths-small, reach-small}
 use Rattle.sizing.proofs.Locals.{gate-below}
 use Rattle.sizing.proofs.Starting.{root-curvable}
 use Rattle.shaping.specs.PlantedBlock.{max-nodes}
 use Rattle.shaping.proofs.Facts.{join, no-wire-twice, descending, ranges}
-use Rattle.answers.specs.declared.tree.TreeCurve.{TreeCurve}
-use Rattle.answers.specs.TreeHeld.{TreeArrays, TreeHeld, CurveFound, IncreasesFound}
+use Rattle.answers.specs.TreeHeld.{TreeArrays, TreeHeld, CurveFound}
 
 -- heads for so many places are stored
 pub record Places (H : Stored) (n : ℕ) : Type 0 where

@@ -1,8 +1,8 @@
 -- A series-parallel block whose tree stands in node arrays: what sizing it asks, and what is found.
 use mathlib.Core.Path.{_≡_}
 use mathlib.Core.List.{List, map}
-use Prim.Native.Nat.{ℕ, _+_, _-_, _*_, _^_, _≤_, _<_}
-use lib.ListN.{length, getD}
+use Prim.Native.Nat.{ℕ, _-_, _*_, _^_, _≤_, _<_}
+use lib.ListN.{length}
 use Rattle.lists.specs.Over.{over}
 use Rattle.model.specs.Limits.{max-gates, max-steps}
 use Rattle.model.specs.Block.{Block}

@@ -11,7 +11,6 @@ use model::SlacksAnswer;
 use resizing::best::best_increases;
 use resizing::curve::curve;
 use resizing::slacks::slacks;
-ghost use mathlib.Core.Path.{_≡_};
 ghost use Prim.Native.Nat.{_≤_};
 ghost use lib.ListN.{length};
 

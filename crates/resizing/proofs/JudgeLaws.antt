@@ -14,14 +14,14 @@ use Rattle.lists.proofs.Compare.{le-or-lt}
 use Rattle.model.specs.Limits.{max-gates, max-width, max-time}
 use Rattle.model.specs.Block.{Step, Block, gate, gate-count, first, last, widths}
 use Rattle.model.specs.Path.{Path, Longest}
-use Rattle.model.specs.Gain.{input-activity, saving}
-use Rattle.model.specs.InTime.{no-increase, slowed}
+use Rattle.model.specs.Gain.{saving}
+use Rattle.model.specs.InTime.{slowed}
 use Rattle.model.specs.Slack.{source-by}
 use Rattle.model.specs.Answer.{refusal, accepted, Exceeds, PathNotInTime, AnswersJudge, well-formed, fits, passes}
-use Rattle.model.proofs.Limited.{StepLimits, BlockLimits}
+use Rattle.model.proofs.Limited.{StepLimits}
 use Rattle.model.proofs.SameDelays.{source-same}
 use Rattle.model.proofs.Slack.{entered}
-use Rattle.model.proofs.Source.{Along, Entered, source-attained, source-greatest}
+use Rattle.model.proofs.Source.{Entered, source-attained, source-greatest}
 use Rattle.blockfile.specs.Held.{GateArrays, WireArrays}
 use Rattle.network.specs.Wires.{Lent}
 use Rattle.timing.proofs.Found.{along}

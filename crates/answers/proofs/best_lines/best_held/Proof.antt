@@ -1,6 +1,6 @@
 -- `answers::best_lines::best_held` meets its contract: the tree is planted, start is measured, and the spare ticks are handed out. Assumes nothing.
 use borrow.Author.Needs.{needs}
-use mathlib.Core.Path.{_∙_, refl, sym}
+use mathlib.Core.Path.{_∙_, sym}
 use native.Mathlib.Omega.{arith}
 use lib.Seq.{length-take-le}
 use Rattle.answers.proofs.HeldLaws.{block, given, wires-long, startable, start-found, summable, some, the-limits, the-lent}

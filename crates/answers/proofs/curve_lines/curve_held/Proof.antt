@@ -1,9 +1,9 @@
 -- `answers::curve_lines::curve_held` meets its contract: the tree is planted, start is measured, and the runs from the raised start on are noted. Assumes nothing.
 use borrow.Author.Needs.{needs}
-use mathlib.Core.Path.{_∙_, refl, sym}
+use mathlib.Core.Path.{sym}
 use native.Mathlib.Omega.{arith}
 use lib.Seq.{length-take-le}
-use Rattle.answers.proofs.HeldLaws.{block, given, wires-long, startable, start-found, summable, some, the-limits, the-lent}
+use Rattle.answers.proofs.HeldLaws.{block, given, wires-long, startable, start-found, summable, some, the-lent}
 use Rattle.answers.proofs.PlantedLaws.{tree-held}
 use Rattle.answers.proofs.Lines.{unfit-line, curve-line, curve-bounds}
 use Rattle.answers.proofs.curve_lines.curve_held.Statement.{statement}
