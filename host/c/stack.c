@@ -1,0 +1,108 @@
+/* How much stack a call takes on the blocks of 64 gates that nest deepest: stack BYTES fails where one takes more. */
+
+#define _GNU_SOURCE
+#include "honduvi.h"
+
+#include <stdio.h>
+#include <stdlib.h>
+#include <string.h>
+#include <ucontext.h>
+
+#define GATES 64
+#define STACK (1 << 20)
+#define PAINT 0xa5
+
+static uint8_t file[4096];
+static size_t length;
+static uint8_t increases[4 * GATES];
+static ucontext_t caller, callee;
+
+static void put(uint8_t byte)
+{
+    file[length++] = byte;
+}
+
+static void put_wire(int from, int to)
+{
+    put(3), put(0), put(2), put((uint8_t)from), put((uint8_t)to);
+}
+
+/* the block field and 64 gates of delay 1 with one step, deadline 300 */
+static void put_gates(void)
+{
+    static const uint8_t block[] = {1, 0, 8, 1, GATES, 0, 0, 1, 44, 0, 128};
+    static const uint8_t gate[] = {2, 0, 8, 0, 1, 0, 128, 0, 4, 0, 9};
+    length = 0;
+    memcpy(file, block, sizeof block), length += sizeof block;
+    for (int g = 0; g < GATES; g++)
+        memcpy(file + length, gate, sizeof gate), length += sizeof gate;
+}
+
+static void chain(void)
+{
+    for (int g = 0; g + 1 < GATES; g++)
+        put_wire(g, g + 1);
+}
+
+/* every gate of the chain also leads to the last: a part beside a wire, in series, beside a wire, and so on */
+static void ladder(void)
+{
+    chain();
+    for (int g = 0; g + 2 < GATES; g++)
+        put_wire(g, GATES - 1);
+}
+
+static void beside(void)
+{
+    for (int g = 1; g + 1 < GATES; g++)
+        put_wire(0, g), put_wire(g, GATES - 1);
+}
+
+static void call(void)
+{
+    if (honduvi_best_increases(file, length, increases, sizeof increases).number != 0)
+        puts("stack: a block was refused"), exit(1);
+}
+
+static void nothing(void)
+{
+}
+
+/* the bytes of a painted stack that a function overwrote */
+static size_t taken(void (*function)(void))
+{
+    static uint8_t *stack;
+    if (stack == NULL && (stack = malloc(STACK)) == NULL)
+        puts("stack: no memory"), exit(1);
+    memset(stack, PAINT, STACK);
+    getcontext(&callee);
+    callee.uc_stack.ss_sp = stack;
+    callee.uc_stack.ss_size = STACK;
+    callee.uc_link = &caller;
+    makecontext(&callee, function, 0);
+    swapcontext(&caller, &callee);
+    size_t free = 0;
+    while (free < STACK && stack[free] == PAINT)
+        free++;
+    return STACK - free;
+}
+
+int main(int count, char **arguments)
+{
+    static const struct {
+        const char *name;
+        void (*wires)(void);
+    } shapes[] = {{"chain", chain}, {"side by side", beside}, {"ladder", ladder}};
+    size_t most = count == 2 ? strtoul(arguments[1], NULL, 10) : 0;
+    int right = 1;
+    for (size_t i = 0; i < sizeof shapes / sizeof shapes[0]; i++) {
+        put_gates();
+        shapes[i].wires();
+        size_t bytes = taken(call) - taken(nothing);
+        printf("stack: %s of %d gates takes %zu bytes\n", shapes[i].name, GATES, bytes);
+        right = right && bytes <= most;
+    }
+    if (!right)
+        printf("stack: more than %zu bytes\n", most);
+    return right ? 0 : 1;
+}
