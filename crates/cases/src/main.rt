@@ -1,21 +1,303 @@
 // Runs the four calls on stored block files, and prints what they answer. host/CASES.md describes the input and the output.
-mod judging;
-mod lending;
-mod print;
-
-use crate::judging::print_judgements;
-use crate::lending::MARK;
-use crate::lending::lend_best;
-use crate::lending::run_curve;
-use crate::lending::run_slacks;
-use crate::print::end_line;
-use crate::print::print_number;
+// Numbers and refusals come first, each printed with a blank in front; then the calls that write to lent slices, whose arrays hold a mark in every element before a call; then judging; then the records.
 use blockfile::field::number_at;
 use blockfile::field::wide;
 use libc::STDOUT_FILENO;
+use loading::numbers::numbers_of;
+use model::BestAnswer;
+use model::CurveAnswer;
+use model::JudgeAnswer;
+use model::Refusal;
+use model::SlacksAnswer;
+use resizing::best::best_increases;
+use resizing::curve::curve;
+use resizing::judge::judge;
+use resizing::slacks::slacks;
 ghost use mathlib.Core.Path.{_≡_};
 ghost use Prim.Native.Nat.{_+_, _≤_};
 ghost use lib.ListN.{length};
+
+fn end_line() {
+    io::write_all(STDOUT_FILENO, b"\n");
+}
+
+fn print_number(n: u64) {
+    io::write_all(STDOUT_FILENO, b" ");
+    io::print_decimal(STDOUT_FILENO, n);
+}
+
+fn print_u32(x: u32) {
+    print_number(x as u64);
+}
+
+// How far a number is below 0.
+fn below_zero(x: i32) -> u64 {
+    if x < 0 { (-1 - x) as u64 + 1 } else { 0 }
+}
+
+// A slack, with a minus sign in front of a negative one.
+fn print_slack(x: i32) {
+    if x < 0 {
+        io::write_all(STDOUT_FILENO, b" -");
+        io::print_decimal(STDOUT_FILENO, below_zero(x));
+    } else {
+        print_number(x as u64);
+    }
+}
+
+// A refusal on a line of its own call.
+fn print_refused(refusal: Refusal) {
+    let refused = numbers_of(refusal);
+    io::write_all(STDOUT_FILENO, b" refused");
+    print_number(refused.number as u64);
+    print_number(refused.place as u64);
+}
+
+// A refusal among other answers.
+fn print_refusal(refusal: Refusal) {
+    let refused = numbers_of(refusal);
+    print_number(refused.number as u64);
+    io::write_all(STDOUT_FILENO, b":");
+    io::print_decimal(STDOUT_FILENO, refused.place as u64);
+}
+
+const MARK: u32 = 2863311530;
+
+const SLACK_MARK: i32 = -1431655766;
+
+// Whether every element from a place on holds the mark.
+fn marked_from(xs: &[u32], from: usize) -> bool {
+    let mut i = from;
+    while i < xs.len() {
+        if xs[i] != MARK {
+            return false;
+        }
+        i += 1;
+    }
+    true
+}
+
+// The same for widths and gains.
+fn pairs_marked_from(widths: &[u32], gains: &[u32], from: usize) -> bool {
+    marked_from(widths, from) && marked_from(gains, from)
+}
+
+// The same for slacks.
+fn slacks_marked_from(xs: &[i32], from: usize) -> bool {
+    let mut i = from;
+    while i < xs.len() {
+        if xs[i] != SLACK_MARK {
+            return false;
+        }
+        i += 1;
+    }
+    true
+}
+
+fn print_kept(kept: bool) {
+    if kept {
+        io::write_all(STDOUT_FILENO, b" kept");
+    } else {
+        io::write_all(STDOUT_FILENO, b" changed");
+    }
+    end_line();
+}
+
+// The first n slacks, or all that there are.
+fn print_slacks(xs: &[i32], n: usize) {
+    let mut i = 0;
+    while i < n {
+        if xs.len() <= i {
+            return;
+        }
+        print_slack(xs[i]);
+        i += 1;
+    }
+}
+
+// The first n increases, or all that there are.
+fn print_increases(xs: &[u32], n: usize) {
+    let mut i = 0;
+    while i < n {
+        if xs.len() <= i {
+            return;
+        }
+        print_u32(xs[i]);
+        i += 1;
+    }
+}
+
+// The first n pairs, or all that there are.
+fn print_pairs(widths: &[u32], gains: &[u32], n: usize) {
+    let mut i = 0;
+    while i < n {
+        if widths.len() <= i {
+            return;
+        }
+        if gains.len() <= i {
+            return;
+        }
+        print_u32(widths[i]);
+        print_u32(gains[i]);
+        i += 1;
+    }
+}
+
+// Zeros in every element.
+fn clear(list: &mut [u32]) {
+    let mut i = 0;
+    while i < list.len() {
+        list[i] = 0;
+        i += 1;
+    }
+}
+
+// The slacks, with the front of an array of marks lent. Answers the number of gates, 0 for a refusal.
+fn lend_slacks(file: &[u8], lent: usize, out: &mut [i32]) -> usize
+    requires { ⌜ lent ≤ length (now out) ⌝ }
+{
+    let answer = slacks(file, &mut out[..lent]);
+    io::write_all(STDOUT_FILENO, b"slacks");
+    match answer {
+        SlacksAnswer::Refused(refusal) => {
+            print_refused(refusal);
+            print_kept(slacks_marked_from(out, 0));
+            0
+        }
+        SlacksAnswer::Given { gates } => {
+            print_slacks(out, gates);
+            print_kept(slacks_marked_from(out, gates));
+            gates
+        }
+    }
+}
+
+// The slacks, with so many elements lent. Answers the number of gates, 0 for a refusal.
+fn run_slacks(file: &[u8], lent: usize) -> usize
+    requires { ⌜ lent ≤ 68 ⌝ }
+{
+    let mut out = [SLACK_MARK; 68];
+    lend_slacks(file, lent, &mut out)
+}
+
+// The curve, with the fronts of two arrays of marks lent.
+fn lend_curve(
+    file: &[u8],
+    lent_widths: usize,
+    lent_gains: usize,
+    widths: &mut [u32],
+    gains: &mut [u32],
+)
+    requires { ⌜ («lent_widths» ≤ length (now widths)) × («lent_gains» ≤ length (now gains)) ⌝ }
+{
+    let answer = curve(file, &mut widths[..lent_widths], &mut gains[..lent_gains]);
+    io::write_all(STDOUT_FILENO, b"curve");
+    match answer {
+        CurveAnswer::Refused(refusal) => {
+            print_refused(refusal);
+            print_kept(pairs_marked_from(widths, gains, 0));
+        }
+        CurveAnswer::Given {
+            start,
+            at_start,
+            pairs,
+        } => {
+            print_u32(start);
+            print_number(at_start);
+            print_number(pairs as u64);
+            print_pairs(widths, gains, pairs);
+            print_kept(pairs_marked_from(widths, gains, pairs));
+        }
+    }
+}
+
+// The curve, with so many elements lent for widths and for gains.
+fn run_curve(file: &[u8], lent_widths: usize, lent_gains: usize)
+    requires { ⌜ («lent_widths» ≤ 520) × («lent_gains» ≤ 520) ⌝ }
+{
+    let mut widths = [MARK; 520];
+    let mut gains = [MARK; 520];
+    lend_curve(file, lent_widths, lent_gains, &mut widths, &mut gains);
+}
+
+// The best increases, with the front of an array of marks lent. The array then holds zeros for a refusal.
+fn lend_best(file: &[u8], lent: usize, list: &mut [u32])
+    requires { ⌜ lent ≤ length (now list) ⌝ }
+{
+    let answer = best_increases(file, &mut list[..lent]);
+    io::write_all(STDOUT_FILENO, b"best");
+    match answer {
+        BestAnswer::Refused(refusal) => {
+            print_refused(refusal);
+            print_kept(marked_from(list, 0));
+            clear(list);
+        }
+        BestAnswer::Given { saving, gates } => {
+            print_number(saving);
+            print_increases(list, gates);
+            print_kept(marked_from(list, gates));
+        }
+    }
+}
+
+// The verdict on a list, on a line of its own.
+fn print_judgement(file: &[u8], list: &[u32]) {
+    io::write_all(STDOUT_FILENO, b"judge");
+    let answer = judge(file, list);
+    match answer {
+        JudgeAnswer::Refused(refusal) => print_refused(refusal),
+        JudgeAnswer::Accepted { saving } => print_number(saving),
+    }
+    end_line();
+}
+
+// The verdict on the list with another increase at a gate. The list is as before afterwards.
+fn print_with(file: &[u8], gate: usize, increase: u32, list: &mut [u32]) {
+    if list.len() <= gate {
+        return;
+    }
+    let held = list[gate];
+    list[gate] = increase;
+    let answer = judge(file, list);
+    list[gate] = held;
+    match answer {
+        JudgeAnswer::Refused(refusal) => print_refusal(refusal),
+        JudgeAnswer::Accepted { saving } => print_number(saving),
+    }
+}
+
+// The verdict on the list with one tick more at a gate.
+fn print_one_more(file: &[u8], gate: usize, list: &mut [u32]) {
+    if gate < list.len() {
+        print_with(file, gate, std::num::wrapping_add_u32(list[gate], 1), list);
+    }
+}
+
+// The verdicts on the list with one tick more at each gate.
+fn print_more(file: &[u8], gates: usize, list: &mut [u32]) {
+    io::write_all(STDOUT_FILENO, b"more");
+    let mut g = 0;
+    while g < gates {
+        print_one_more(file, g, list);
+        g += 1;
+    }
+    end_line();
+}
+
+// The verdict on the list in hand; where the block has gates, also those on lists with one tick more at each gate, and with `beyond` and the largest number at one gate.
+fn print_judgements(file: &[u8], gates: usize, gate: usize, beyond: u32, list: &mut [u32]) {
+    print_judgement(file, list);
+    if gates == 0 {
+        return;
+    }
+    print_more(file, gates, list);
+    io::write_all(STDOUT_FILENO, b"beyond");
+    print_with(file, gate, beyond, list);
+    end_line();
+    io::write_all(STDOUT_FILENO, b"largest");
+    print_with(file, gate, 4294967295, list);
+    end_line();
+}
 
 // The smaller of two numbers.
 fn smaller(a: usize, b: usize) -> usize

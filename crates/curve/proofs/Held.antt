@@ -1,36 +1,20 @@
--- Takings from a curve that two slices hold: where its widths and gains stand in front, their pairs are the curve's; the pair of a position is read off the slices; past the end of the pairs, and past the end of either slice, nothing is earned.
+-- Takings from a curve that two slices hold: the pair of a position is read off the slices; past the end of the pairs, and past the end of either slice, nothing is earned.
 -- Assumes nothing.
 use mathlib.Core.Path.{_≡_, refl, sym, _∙_, ap}
 use mathlib.Core.Logic.{_⊎_, inl, inr}
-use mathlib.Core.List.{List, map}
+use mathlib.Core.List.{List}
 use Prim.Native.Nat.{ℕ, _+_, _*_, _-_, _≤_, _<_, min}
 use native.Mathlib.Nat.{mul-zero, min-eq-left, min-eq-right, le-of-lt}
 use native.Mathlib.Omega.{arith}
-use lib.ListN.{length, getD, length-map, List·getD-eq-default, List·getD-map}
-use lib.Seq.{ext-getD}
+use lib.ListN.{length, getD, List·getD-eq-default}
 use Rattle.lists.proofs.Compare.{le-or-lt}
-use Rattle.lists.specs.Over.{build, over}
-use Rattle.lists.proofs.Over.{length-build, getD-build, build-same, getD-over-front}
+use Rattle.lists.specs.Over.{build}
+use Rattle.lists.proofs.Over.{length-build, getD-build}
 use Rattle.model.specs.Curve.{Pair}
 use Rattle.curve.specs.declared.position.Position.{Position}
 use Rattle.curve.specs.declared.position.Taken.{Taken}
 use Rattle.curve.specs.Position.{pair-at, pairs-in, no-pair, here, left-at, none-at, taken-at}
 use Rattle.curve.proofs.Taking.{Taking, past, within, beyond, taking, taken-past, taken-within, taken-beyond}
-
-all-built : (ps : List Pair) → build (length ps) (λ (i : ℕ). getD ps i no-pair) ≡ ps
-all-built ps =
-    ext-getD no-pair (build (length ps) (λ (i : ℕ). getD ps i no-pair)) ps (length-build (length ps) (λ (i : ℕ). getD ps i no-pair))
-    (λ i h. getD-build (length ps) (λ (j : ℕ). getD ps j no-pair) i no-pair (rw length-build at h))
-
-in-front : (f : Pair → ℕ) (ps : List Pair) (old : List ℕ) (i : ℕ) → f no-pair ≡ 0 → i < length ps → getD (over (map f ps) old) i 0 ≡ f (getD ps i no-pair)
-in-front f ps old i e h = getD-over-front (map f ps) old i 0 (rw length-map h) ∙ rw e at (List·getD-map f ps i no-pair)
-
--- where slices hold a curve's widths and gains in front, their pairs are the curve's
-pub pairs-held : (ps : List Pair) (ws gs : List ℕ) → pairs-in (length ps) (over (map (λ (q : Pair). q .width) ps) ws) (over (map (λ (q : Pair). q .gain) ps) gs) ≡ ps
-pairs-held ps ws gs =
-    build-same (length ps) (pair-at (over (map (λ (q : Pair). q .width) ps) ws) (over (map (λ (q : Pair). q .gain) ps) gs)) (λ (i : ℕ). getD ps i no-pair)
-    (λ (i : ℕ) (h : i < length ps). rw (in-front (λ (q : Pair). q .width) ps ws i refl h, in-front (λ (q : Pair). q .gain) ps gs i refl h))
-    ∙ all-built ps
 
 -- every gain is one of the slice, or 0
 pub gains-at-most : (g n : ℕ) (ws gs : List ℕ) → ((i : ℕ) → getD gs i 0 ≤ g) → (i : ℕ) → getD (pairs-in n ws gs) i no-pair .gain ≤ g

@@ -12,7 +12,6 @@ pub mod Gains
 pub mod Runs
 pub mod Increases
 pub mod Loop
-pub mod Noting
 pub mod Sums
 pub mod Digits
 pub mod Ties

@@ -1,16 +1,15 @@
--- What a loop that hands out run by run on the list reaches: w ticks at once, w at most the width of the head, take the list after k ticks to the list after k + w; and where no head is left, further ticks change nothing.
+-- What a loop that hands out run by run on the list reaches: w ticks at once, w at most the width of the head, are w single ticks; and where no head is left, ticks change nothing.
 -- Assumes nothing.
 use mathlib.Core.Path.{_≡_, refl, sym, _∙_}
 use mathlib.Core.List.{List}
 use Prim.Native.Nat.{ℕ, zero, suc, _+_, _≤_, _<_}
 use native.Mathlib.Nat.{zero-add, suc-add}
-use native.Mathlib.Omega.{arith}
-use Rattle.optimum.specs.Tree.{Tree, Once, Below}
+use Rattle.optimum.specs.Tree.{Tree, Once}
 use Rattle.optimum.specs.Head.{Head, Heads}
 use Rattle.optimum.specs.Handout.{head}
-use Rattle.optimum.specs.Increases.{read, give-list, ticks-list, sized}
+use Rattle.optimum.specs.Increases.{read, give-list, ticks-list}
 use Rattle.optimum.proofs.Handout.{give-is-ticks, ticks-none}
-use Rattle.optimum.proofs.Increases.{Placed, give-frame, ticks-frame, frame-none, same-lists, read-give, read-ticks, length-sized}
+use Rattle.optimum.proofs.Increases.{Placed, give-frame, ticks-frame, frame-none, same-lists, read-give, read-ticks}
 
 -- j + k ticks are j and then k
 pub ticks-list-add : (h : ℕ → ℕ → Head) (t : Tree) (j k : ℕ) (x : List ℕ) → ticks-list h t (j + k) x ≡ ticks-list h t k (ticks-list h t j x)
@@ -30,17 +29,3 @@ module _ (n : ℕ) (h : ℕ → ℕ → Head) (heads : Heads n h) where
   pub ticks-list-none : (t : Tree) (k : ℕ) (x : List ℕ) → Once t → Placed t x → head h t (read t x) .gain ≡ 0 → ticks-list h t k x ≡ x
   ticks-list-none t k x once p z =
       same-lists t x _ _ (ticks-frame h t k x) (frame-none t x) (read-ticks h t k x once p ∙ ticks-none n h heads t k (read t x) z)
-
-  module _ (d : ℕ → ℕ) (t : Tree) (once : Once t) (below : Below n t) (k : ℕ) where
-    placed : Placed t (sized d h t n k)
-    placed g l = omega (arith, below g l, length-sized h d t n k)
-
-    -- a run, or a part of it
-    pub sized-more : (w : ℕ) → 0 < head h t (read t (sized d h t n k)) .gain → suc w ≤ head h t (read t (sized d h t n k)) .width
-        → give-list h t (suc w) (sized d h t n k) ≡ sized d h t n (k + suc w)
-    sized-more w pos l =
-        give-list-is-ticks t w (sized d h t n k) once placed pos l ∙ sym (ticks-list-add h t k (suc w) _)
-
-    -- the end
-    pub sized-ends : (j : ℕ) → head h t (read t (sized d h t n k)) .gain ≡ 0 → sized d h t n (k + j) ≡ sized d h t n k
-    sized-ends j z = ticks-list-add h t k j _ ∙ ticks-list-none t j (sized d h t n k) once placed z

@@ -36,14 +36,3 @@ onto p (q ∷ qs) =
 unfoldable pub joined : List Pair → List Pair
 joined [] = []
 joined (p ∷ ps) = onto p (joined ps)
-
--- a pair behind a curve, joined to its last pair where the gain is the same: how a loop notes the runs
-unfoldable pub noted : List Pair → Pair → List Pair
-noted [] p = p ∷ []
-noted (q ∷ []) p = onto q (p ∷ [])
-noted (q ∷ r ∷ rs) p = q ∷ noted (r ∷ rs) p
-
--- the list after j whole runs
-unfoldable pub run-on : (ℕ → ℕ → Head) → Tree → ℕ → List ℕ → List ℕ
-run-on h t zero x = x
-run-on h t (suc j) x = run-on h t j (give-list h t (head h t (read t x) .width) x)

@@ -1,9 +1,9 @@
 -- What is planted in the first c nodes stays so in other arrays that agree there (`same-planted`), as in the arrays cut off at c; and the reduction's root can be copied.
 -- Assumes nothing.
 use mathlib.Core.Path.{_≡_, sym, _∙_}
-use Prim.Native.Nat.{ℕ, _≤_, _<_}
+use Prim.Native.Nat.{ℕ, _<_}
 use native.Mathlib.Omega.{arith}
-use lib.ListN.{length, take}
+use lib.ListN.{take}
 use lib.Seq.{getD-take}
 use Rattle.model.specs.Block.{Block}
 use Rattle.parts.specs.Nodes.{Nodes, Tree, tree-of}
@@ -67,13 +67,13 @@ cut-planted {t} {c} {A} some p =
     (λ k h. getD-take c (A .parents) k 0 h)
     p
 
--- The reduction's root can be copied from arrays that hold its nodes.
-pub rooted-readable : {B : Block} {T : Nodes} {i n : ℕ} → Rooted B T i n → n ≤ length (T .kinds) → n ≤ length (T .lefts) → n ≤ length (T .gates) → n ≤ length (T .rights) → Readable T i
-rooted-readable r a b c d =
+-- The reduction's root can be copied.
+pub rooted-readable : {B : Block} {T : Nodes} {i n : ℕ} → Rooted B T i n → Readable T i
+rooted-readable r =
     record {
-      kind-in = omega (arith, r .below);
-      left-in = omega (arith, r .below);
-      gate-in = omega (arith, r .below);
-      right-in = omega (arith, r .below);
+      kind-in = omega (arith, r .below, r .kinds-long);
+      left-in = omega (arith, r .below, r .lefts-long);
+      gate-in = omega (arith, r .below, r .gates-long);
+      right-in = omega (arith, r .below, r .rights-long);
       children = λ j h. r .children j (omega (arith, r .below));
     }

@@ -1,19 +1,15 @@
--- A planted tree of a block is what sizing asks for: no gate stands twice in a part, each gate stands at one series node, the gates are the block's and a part has no more of them; and the tree planted from the reduction's root is the block's tree.
+-- A planted tree of a block is what sizing asks for: no gate stands twice in a part, each gate stands at one series node, the gates are the block's and a part has no more of them.
 -- Assumes nothing.
-use mathlib.Core.Path.{_≡_, sym, subst}
+use mathlib.Core.Path.{_≡_}
 use Prim.Native.Nat.{ℕ, _≤_, _<_}
 use native.Mathlib.Omega.{arith}
-use Rattle.model.specs.Block.{Block, gate-count, first, last}
-use Rattle.model.specs.Part.{built}
-use Rattle.parts.specs.Nodes.{Nodes, tree-of, Tree}
-use Rattle.parts.specs.Answered.{Rooted}
+use Rattle.model.specs.Block.{Block, gate-count}
+use Rattle.parts.specs.Nodes.{Tree}
 use Rattle.optimum.specs.Tree.{Once, Below, size}
-use Rattle.optimum.specs.BlockTree.{NoneTwice, WiresJoinGates, IsTree}
-use Rattle.optimum.proofs.BlockTree.{block-is-tree}
+use Rattle.optimum.specs.BlockTree.{IsTree}
 use Rattle.optimum.proofs.Range.{tree-size}
 use Rattle.planting.specs.Copy.{Plot}
-use Rattle.planting.specs.Planted.{as-tree, part, kind, gate, whole, Planted}
-use Rattle.planting.proofs.Trees.{whole-converted}
+use Rattle.planting.specs.Planted.{as-tree, part, kind, gate, Planted}
 
 module _ (B : Block) {t : Tree} (tree : IsTree B (as-tree t)) {c : ℕ} {A : Plot} (p : Planted t c A) where
   pub own-gate : (j k : ℕ) → j < c → k < c → kind (A .nodes) j ≡ 1 → kind (A .nodes) k ≡ 1 → gate (A .nodes) j ≡ gate (A .nodes) k → j ≡ k
@@ -27,9 +23,3 @@ module _ (B : Block) {t : Tree} (tree : IsTree B (as-tree t)) {c : ℕ} {A : Plo
 
   pub few : (k : ℕ) → k < c → size (part (A .nodes) k) ≤ gate-count B
   few k h = omega (arith, p .inside k h .sizes, tree-size B (as-tree t) tree)
-
--- The reduction's root between the first and the last gate is a tree of the block.
-pub rooted-is-tree : (B : Block) (T : Nodes) (i n : ℕ) → NoneTwice (B .wires) → WiresJoinGates B → Rooted B T i n
-    → IsTree B (as-tree (whole (first B) (tree-of T i) (last B)))
-rooted-is-tree B T i n none join r =
-    subst (IsTree B) (sym (whole-converted B none (tree-of T i) (r .weighed))) (block-is-tree B (built _ (r .whole)) join)

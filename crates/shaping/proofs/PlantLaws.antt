@@ -61,7 +61,7 @@ module _ {B : Block} {n m : ℕ} {sources targets wire-delays : List ℕ} (given
   -- The root can be copied, and there is room for its tree between two gates.
   pub root-asked : {T : Nodes} {t k : ℕ} {A : Plot} → Rooted B T t k → NodesLong A → (a b : ℕ) → Readable T t × Room A (nodes-of (whole a (tree-of T t) b))
   root-asked {T} {t} r long a b =
-      (rooted-readable r (r .kinds-long) (r .lefts-long) (r .gates-long) (r .rights-long), few-room long (nodes-of (whole a (tree-of T t) b)) (root-few r a b))
+      (rooted-readable r, few-room long (nodes-of (whole a (tree-of T t) b)) (root-few r a b))
 
   -- What is planted is the block's tree, or there is none.
   pub unfit-planted : {A : Plot} → ¬ (SeriesParallel B) → PlantedOrNot B 0 A

@@ -18,5 +18,3 @@ pub mod Joining
 pub mod Bounds
 pub mod Spent
 pub mod Spending
-pub mod Inherited
-pub mod Soundness

@@ -1,6 +1,5 @@
 -- The tree of parts in node arrays, with the number of each node's parent, and the heads that the gates have by their steps. Nothing of it changes while ticks are handed out.
 use mathlib.Core.Path.{_≡_}
-use mathlib.Core.Logic.{_⊎_}
 use mathlib.Core.Bool.{cond}
 use mathlib.Core.List.{List}
 use Prim.Native.Nat.{ℕ, _+_, _*_, _^_, _≤_, _<_}
@@ -112,13 +111,3 @@ pub record Sound (P : Plan) : Type 0 where
   pub heads : Heads (P .gate-count) (P .heads)
   pub small : (g k : ℕ) → P .heads g k .gain ≤ most-gain
   pub near : (g k : ℕ) → 0 < P .heads g k .gain → k + P .heads g k .width < 2 ^ 32
-
--- What the node arrays say of parents and gates: every node but the last is a child of its parent.
-pub record Linked (N : Nodes) (parents : List ℕ) : Type 0 where
-  pub left-below : (k : ℕ) → k < node-count N → 0 < kind N k → left N k < k
-  pub right-below : (k : ℕ) → k < node-count N → 0 < kind N k → right N k < k
-  pub left-parent : (k : ℕ) → k < node-count N → 0 < kind N k → parent parents (left N k) ≡ k
-  pub right-parent : (k : ℕ) → k < node-count N → 0 < kind N k → parent parents (right N k) ≡ k
-  pub own-gate : (j k : ℕ) → j < node-count N → k < node-count N → kind N j ≡ 1 → kind N k ≡ 1 → gate N j ≡ gate N k → j ≡ k
-  pub parent-in : (k : ℕ) → k + 1 < node-count N → (k < parent parents k) × (parent parents k < node-count N) × (0 < kind N (parent parents k))
-  pub child : (k : ℕ) → k + 1 < node-count N → (left N (parent parents k) ≡ k) ⊎ (right N (parent parents k) ≡ k)

@@ -1,8 +1,8 @@
--- `cases::print::below_zero` is safe: −1 − x fits for a negative x, and is a natural number. Assumes nothing.
+-- `cases::below_zero` is safe: −1 − x fits for a negative x, and is a natural number. Assumes nothing.
 use borrow.Author.Needs.{needs}
 use Rattle.cases.proofs.Signs.{turned-fits, turned-cast, turned-more}
-use Rattle.cases.proofs.print.below_zero.Statement.{statement}
-use Rattle.cases.proofs.print.below_zero.Tie as tie
+use Rattle.cases.proofs.below_zero.Statement.{statement}
+use Rattle.cases.proofs.below_zero.Tie as tie
 
 sub-result : tie.Need-sub-result
 sub-result c = turned-fits (c .before .args .x) (c .before .fits .x) (c .if1 .taken)

@@ -1,8 +1,8 @@
--- `cases::lending::print_increases` is safe and ends. Assumes nothing.
+-- `cases::print_increases` is safe and ends. Assumes nothing.
 use borrow.Author.Needs.{needs}
 use Prim.Native.Nat.{_-_}
-use Rattle.cases.proofs.lending.print_increases.Statement.{statement}
-use Rattle.cases.proofs.lending.print_increases.Tie as tie
+use Rattle.cases.proofs.print_increases.Statement.{statement}
+use Rattle.cases.proofs.print_increases.Tie as tie
 
 abbrev Inv-loop : tie.InvT-loop
 Inv-loop xs n i₀ i = Unit {0}

@@ -1,11 +1,11 @@
--- `cases::lending::clear` is safe and ends. The loop's invariant: the list is as long as it was. Assumes nothing.
+-- `cases::clear` is safe and ends. The loop's invariant: the list is as long as it was. Assumes nothing.
 use borrow.Author.Needs.{needs}
 use mathlib.Core.Path.{_≡_}
 use Prim.Native.Nat.{_-_}
 use lib.ListN.{length, length-set}
 use native.Mathlib.Omega.{arith}
-use Rattle.cases.proofs.lending.clear.Statement.{statement}
-use Rattle.cases.proofs.lending.clear.Tie as tie
+use Rattle.cases.proofs.clear.Statement.{statement}
+use Rattle.cases.proofs.clear.Tie as tie
 
 abbrev Inv-loop : tie.InvT-loop
 Inv-loop list₀ i₀ list i = length list ≡ length list₀

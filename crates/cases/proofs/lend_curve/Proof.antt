@@ -1,9 +1,9 @@
--- `cases::lending::lend_curve` is safe: as many elements are lent as it was told. Assumes nothing.
+-- `cases::lend_curve` is safe: as many elements are lent as it was told. Assumes nothing.
 use borrow.Author.Needs.{needs}
 use mathlib.Core.Path.{sym}
 use lib.Seq.{length-take-le}
-use Rattle.cases.proofs.lending.lend_curve.Statement.{statement}
-use Rattle.cases.proofs.lending.lend_curve.Tie as tie
+use Rattle.cases.proofs.lend_curve.Statement.{statement}
+use Rattle.cases.proofs.lend_curve.Tie as tie
 
 slice-relend-prefix-curve : tie.Need-slice-relend-prefix-curve
 slice-relend-prefix-curve c = search needs

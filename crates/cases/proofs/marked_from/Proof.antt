@@ -1,9 +1,9 @@
--- `cases::lending::slacks_marked_from` is safe and ends. Assumes nothing.
+-- `cases::marked_from` is safe and ends. Assumes nothing.
 use borrow.Author.Needs.{needs}
 use Prim.Native.Nat.{_-_}
 use lib.ListN.{length}
-use Rattle.cases.proofs.lending.slacks_marked_from.Statement.{statement}
-use Rattle.cases.proofs.lending.slacks_marked_from.Tie as tie
+use Rattle.cases.proofs.marked_from.Statement.{statement}
+use Rattle.cases.proofs.marked_from.Tie as tie
 
 abbrev Inv-loop : tie.InvT-loop
 Inv-loop xs from i₀ i = Unit {0}
@@ -17,8 +17,8 @@ loop-holds c = search needs
 mul-if1 : tie.Need-mul-if1 Inv-loop μ-loop
 mul-if1 c = search needs
 
-shared-slice-copy-out-if1 : tie.Need-shared-slice-copy-out-if1 Inv-loop μ-loop
-shared-slice-copy-out-if1 c = search needs
+shared-slice-read-if1 : tie.Need-shared-slice-read-if1 Inv-loop μ-loop
+shared-slice-read-if1 c = search needs
 
 returns : tie.Need-returns Inv-loop μ-loop
 returns c = search needs
@@ -35,5 +35,5 @@ loop-again c = search needs
 returns-2 : tie.Need-returns-2 Inv-loop μ-loop
 returns-2 c = search needs
 
-pub slacks-marked-from-spec : {M : Type 1} → statement M
-slacks-marked-from-spec = tie.close (tie.spec Inv-loop μ-loop loop-holds mul-if1 shared-slice-copy-out-if1 returns add-i loop-less loop-again returns-2)
+pub marked-from-spec : {M : Type 1} → statement M
+marked-from-spec = tie.close (tie.spec Inv-loop μ-loop loop-holds mul-if1 shared-slice-read-if1 returns add-i loop-less loop-again returns-2)

@@ -1,8 +1,8 @@
--- `cases::lending::print_pairs` is safe and ends. Assumes nothing.
+-- `cases::print_pairs` is safe and ends. Assumes nothing.
 use borrow.Author.Needs.{needs}
 use Prim.Native.Nat.{_-_}
-use Rattle.cases.proofs.lending.print_pairs.Statement.{statement}
-use Rattle.cases.proofs.lending.print_pairs.Tie as tie
+use Rattle.cases.proofs.print_pairs.Statement.{statement}
+use Rattle.cases.proofs.print_pairs.Tie as tie
 
 abbrev Inv-loop : tie.InvT-loop
 Inv-loop widths gains n i₀ i = Unit {0}

@@ -1,9 +1,9 @@
--- `cases::lending::lend_best` is safe: as many elements are lent as it was told. Assumes nothing.
+-- `cases::lend_best` is safe: as many elements are lent as it was told. Assumes nothing.
 use borrow.Author.Needs.{needs}
 use mathlib.Core.Path.{sym}
 use lib.Seq.{length-take-le}
-use Rattle.cases.proofs.lending.lend_best.Statement.{statement}
-use Rattle.cases.proofs.lending.lend_best.Tie as tie
+use Rattle.cases.proofs.lend_best.Statement.{statement}
+use Rattle.cases.proofs.lend_best.Tie as tie
 
 slice-relend-prefix-best-increases : tie.Need-slice-relend-prefix-best-increases
 slice-relend-prefix-best-increases c = search needs

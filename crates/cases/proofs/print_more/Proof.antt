@@ -1,10 +1,10 @@
--- `cases::judging::print_more` is safe and ends. The loop's invariant: the list is as long as it was. Assumes nothing.
+-- `cases::print_more` is safe and ends. The loop's invariant: the list is as long as it was. Assumes nothing.
 use borrow.Author.Needs.{needs}
 use mathlib.Core.Path.{_≡_}
 use Prim.Native.Nat.{_-_}
 use lib.ListN.{length}
-use Rattle.cases.proofs.judging.print_more.Statement.{statement}
-use Rattle.cases.proofs.judging.print_more.Tie as tie
+use Rattle.cases.proofs.print_more.Statement.{statement}
+use Rattle.cases.proofs.print_more.Tie as tie
 
 abbrev Inv-loop : tie.InvT-loop
 Inv-loop file gates list₀ g₀ list g = length list ≡ length list₀

@@ -1,8 +1,8 @@
--- `cases::print::print_slack` is safe: a slack that is not below 0 is a natural number. Assumes nothing.
+-- `cases::print_slack` is safe: a slack that is not below 0 is a natural number. Assumes nothing.
 use borrow.Author.Needs.{needs}
 use Rattle.cases.proofs.Signs.{natural-cast}
-use Rattle.cases.proofs.print.print_slack.Statement.{statement}
-use Rattle.cases.proofs.print.print_slack.Tie as tie
+use Rattle.cases.proofs.print_slack.Statement.{statement}
+use Rattle.cases.proofs.print_slack.Tie as tie
 
 slice-aggregate-write-all : tie.Need-slice-aggregate-write-all
 slice-aggregate-write-all c = search needs

@@ -1,9 +1,9 @@
--- `cases::lending::lend_slacks` is safe: as many elements are lent as it was told. Assumes nothing.
+-- `cases::lend_slacks` is safe: as many elements are lent as it was told. Assumes nothing.
 use borrow.Author.Needs.{needs}
 use mathlib.Core.Path.{sym}
 use lib.Seq.{length-take-le}
-use Rattle.cases.proofs.lending.lend_slacks.Statement.{statement}
-use Rattle.cases.proofs.lending.lend_slacks.Tie as tie
+use Rattle.cases.proofs.lend_slacks.Statement.{statement}
+use Rattle.cases.proofs.lend_slacks.Tie as tie
 
 slice-relend-prefix-slacks : tie.Need-slice-relend-prefix-slacks
 slice-relend-prefix-slacks c = search needs
