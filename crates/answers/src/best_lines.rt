@@ -14,6 +14,7 @@ ghost use Rattle.loading.specs.Loads.{block-held};
 ghost use Rattle.loading.specs.HeldFile.{HeldFile};
 
 // The best increases of the block, to the front of the slice.
+// Public for the crates above only: they have shown that a well-formed file's block is in the arrays.
 pub fn best_held(
     n: usize,
     m: usize,

@@ -15,6 +15,7 @@ ghost use Rattle.loading.specs.Loads.{block-held};
 ghost use Rattle.loading.specs.HeldFile.{HeldFile};
 
 // The curve of the block, whatever its arrival and deadline: its pairs to the front of the two slices.
+// Public for the crates above only: they have shown that a well-formed file's block is in the arrays.
 pub fn curve_held(
     n: usize,
     m: usize,

@@ -44,7 +44,8 @@ fn note(
     count + 1
 }
 
-// Hands out `ticks` ticks at node i, run by run, at most `steps` runs, and notes the pairs of their curve. Answers how many pairs there are.
+// Hands out `ticks` ticks at node i, run by run, at most `steps` runs, and notes the pairs of their curve. Answers how many pairs there are. The heads are scratch afterwards.
+// Public for the crates above only: they have shown that all heads are right.
 pub fn spend_ticks(
     i: usize,
     ticks: u32,

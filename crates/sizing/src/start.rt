@@ -7,6 +7,7 @@ ghost use Rattle.sizing.specs.State.{state};
 ghost use Rattle.sizing.specs.Raise.{Measurable, Raised, Sizable, delays-in};
 
 // The increases of the raised start, and all heads with them.
+// Public for the crates above only: they have shown that the arrays hold a sound plan.
 pub fn start(
     n: u32,
     kinds: &[u32],
