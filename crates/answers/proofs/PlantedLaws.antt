@@ -85,6 +85,7 @@ module _
             held = held;
             shaped =
                 record {
+                  few-nodes = omega (arith, nodes-are, p .few);
                   left-below = λ k l. planted .left-below k (omega (arith, nodes-are));
                   right-below = λ k l. planted .right-below k (omega (arith, nodes-are));
                   left-parent = λ k l. planted .left-parent k (omega (arith, nodes-are));
@@ -97,11 +98,9 @@ module _
             above = λ k l. planted .above k (omega (arith, nodes-are));
             lasts = λ k l. lasts k (omega (arith, nodes-are));
             some-node = omega (arith, nodes-are, p .some);
-            few-nodes = omega (arith, nodes-are, p .few);
-            lefts-long = omega (arith, nodes-are, length-take-le c (A .nodes .lefts) (omega (arith, p .few, long .lefts-long)));
-            gates-long = omega (arith, nodes-are, length-take-le c (A .nodes .gates) (omega (arith, p .few, long .gates-long)));
-            rights-long = omega (arith, nodes-are, length-take-le c (A .nodes .rights) (omega (arith, p .few, long .rights-long)));
-            parents-long = omega (arith, nodes-are, length-take-le c (A .parents) (omega (arith, p .few, long .parents-long)));
+            lefts-long = omega (arith, nodes-are, p .few, long .lefts-long);
+            gates-long = omega (arith, nodes-are, p .few, long .gates-long);
+            rights-long = omega (arith, nodes-are, p .few, long .rights-long);
             counts-long = omega (arith, h .counts-long, gates-few);
             widths-long = omega (arith, h .widths-long, gates-few);
             drops-long = omega (arith, h .drops-long, gates-few);

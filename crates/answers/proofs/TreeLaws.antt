@@ -32,6 +32,7 @@ use Rattle.optimum.specs.Increases.{sized}
 use Rattle.optimum.specs.BlockTree.{block-tree, increases, step-count, pairs-of, IsTree}
 use Rattle.optimum.proofs.BlockTree.{block-is-tree}
 use Rattle.optimum.proofs.Range.{block-gain}
+use Rattle.planting.specs.Copy.{max-nodes}
 use Rattle.sizing.specs.Plan.{Plan, plan, part, parent, heads-in, Sound, StepsLent}
 use Rattle.sizing.specs.Stored.{Stored, Room}
 use Rattle.sizing.specs.Raise.{root, delays-in, Measurable, Raised, Sizable}
@@ -40,7 +41,6 @@ use Rattle.sizing.proofs.Blocks.{Held, as-many, heads-are, heads-sound, increas
 use Rattle.sizing.proofs.Bounds.{gains-small, widths-small, reach-small}
 use Rattle.sizing.proofs.Locals.{gate-below}
 use Rattle.sizing.proofs.Starting.{root-curvable}
-use Rattle.shaping.specs.PlantedBlock.{max-nodes}
 use Rattle.shaping.proofs.Facts.{join, no-wire-twice, descending, ranges}
 use Rattle.answers.specs.TreeHeld.{TreeArrays, TreeHeld, CurveFound}
 
@@ -140,8 +140,7 @@ module _ {B : Block} {n : ℕ} {A : TreeArrays} (h : TreeHeld B n A) where
         lefts-long = h .lefts-long;
         gates-long = h .gates-long;
         rights-long = h .rights-long;
-        parents-long = h .parents-long;
-        room = λ k l. room-at node-places (omega (arith, h .few-nodes));
+        room = λ k l. room-at node-places (omega (arith, h .shaped .few-nodes));
         gate-room = λ g l. room-at gate-places (omega (arith, gates-few));
         one-each = one-each;
       }
@@ -154,7 +153,7 @@ module _ {B : Block} {n : ℕ} {A : TreeArrays} (h : TreeHeld B n A) where
         lefts-long = h .lefts-long;
         gates-long = h .gates-long;
         rights-long = h .rights-long;
-        lengths-long = omega (arith, h .few-nodes);
+        lengths-long = omega (arith, h .shaped .few-nodes);
         gate-in = λ k l e.
             omega (arith, gate-below (A .nodes) (A .parents) n k (h .shaped) l e (h .below k l), h .held .one-delay-each);
         short = λ k l. omega (arith, h .lasts k l, h .short);

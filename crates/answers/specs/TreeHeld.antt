@@ -18,7 +18,6 @@ use Rattle.optimum.specs.BlockTree.{block-tree, start-of, increases, pairs-of}
 use Rattle.sizing.specs.Plan.{node-count, part, kind, left, gate, right, parent, Shaped}
 use Rattle.sizing.specs.Raise.{delays-in}
 use Rattle.sizing.proofs.Blocks.{Held}
-use Rattle.shaping.specs.PlantedBlock.{max-nodes}
 use Rattle.answers.specs.declared.tree.TreeCurve.{TreeCurve}
 
 -- The arrays that stand while ticks are handed out: the tree's nodes with their parents, the gates' steps, input activities and delays.
@@ -57,11 +56,9 @@ pub record TreeHeld (B : Block) (n : ℕ) (A : TreeArrays) : Type 0 where
   pub above : (k : ℕ) → k < node-count (A .nodes) → k < parent (A .parents) k
   pub lasts : (k : ℕ) → k < node-count (A .nodes) → longest (delays-in (A .delays)) (part (A .nodes) k) (zeros (part (A .nodes) k)) ≤ start-of B (block-tree B fits)
   pub some-node : 0 < node-count (A .nodes)
-  pub few-nodes : node-count (A .nodes) ≤ max-nodes
   pub lefts-long : node-count (A .nodes) ≤ length (A .nodes .lefts)
   pub gates-long : node-count (A .nodes) ≤ length (A .nodes .gates)
   pub rights-long : node-count (A .nodes) ≤ length (A .nodes .rights)
-  pub parents-long : node-count (A .nodes) ≤ length (A .parents)
   pub counts-long : n ≤ length (A .counts)
   pub widths-long : n * max-steps ≤ length (A .step-widths)
   pub drops-long : n * max-steps ≤ length (A .drops)

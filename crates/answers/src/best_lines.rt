@@ -2,7 +2,9 @@
 use crate::tree::tree_increases;
 use gains::inputs::input_activities;
 use model::BestAnswer;
+use model::GateNumbers;
 use model::Refusal;
+use model::StepNumbers;
 use shaping::plant::plant_block;
 use timing::start::start_time;
 ghost use mathlib.Core.List.{List};
@@ -23,9 +25,9 @@ pub fn best_held(
     activity: u32,
     delays: &[u32],
     activities: &[u32],
-    counts: &[u32],
-    step_widths: &[u32],
-    drops: &[u32],
+    counts: &GateNumbers,
+    step_widths: &StepNumbers,
+    drops: &StepNumbers,
     sources: &[u32],
     targets: &[u32],
     wire_delays: &[u32],
@@ -66,10 +68,10 @@ pub fn best_held(
         deadline - (arrival + start),
         n as u32,
         &kinds[..nodes],
-        &lefts[..nodes],
-        &gates[..nodes],
-        &rights[..nodes],
-        &parents[..nodes],
+        &lefts,
+        &gates,
+        &rights,
+        &parents,
         counts,
         step_widths,
         drops,

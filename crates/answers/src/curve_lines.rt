@@ -2,7 +2,9 @@
 use crate::tree::tree_curve;
 use gains::inputs::input_activities;
 use model::CurveAnswer;
+use model::GateNumbers;
 use model::Refusal;
+use model::StepNumbers;
 use shaping::plant::plant_block;
 use timing::start::start_time;
 ghost use mathlib.Core.List.{List};
@@ -22,9 +24,9 @@ pub fn curve_held(
     activity: u32,
     delays: &[u32],
     activities: &[u32],
-    counts: &[u32],
-    step_widths: &[u32],
-    drops: &[u32],
+    counts: &GateNumbers,
+    step_widths: &StepNumbers,
+    drops: &StepNumbers,
     sources: &[u32],
     targets: &[u32],
     wire_delays: &[u32],
@@ -64,10 +66,10 @@ pub fn curve_held(
     let curve = tree_curve(
         n as u32,
         &kinds[..nodes],
-        &lefts[..nodes],
-        &gates[..nodes],
-        &rights[..nodes],
-        &parents[..nodes],
+        &lefts,
+        &gates,
+        &rights,
+        &parents,
         counts,
         step_widths,
         drops,

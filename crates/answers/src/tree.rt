@@ -1,7 +1,10 @@
 // The curve and the best increases of a block whose tree stands in node arrays.
 use curve::count::count_off;
 use gains::saving::list_saving;
+use model::GateNumbers;
+use model::StepNumbers;
 use network::marking::at;
+use planting::NodeNumbers;
 use sizing::curve::spend_ticks;
 use sizing::start::start;
 ghost use mathlib.Core.Path.{_≡_};
@@ -39,14 +42,14 @@ fn step_count(n: usize, counts: &[u32]) -> usize
 pub fn tree_curve(
     n: u32,
     kinds: &[u32],
-    lefts: &[u32],
-    gates: &[u32],
-    rights: &[u32],
-    parents: &[u32],
-    counts: &[u32],
-    step_widths: &[u32],
-    drops: &[u32],
-    inputs: &[u32],
+    lefts: &NodeNumbers,
+    gates: &NodeNumbers,
+    rights: &NodeNumbers,
+    parents: &NodeNumbers,
+    counts: &GateNumbers,
+    step_widths: &StepNumbers,
+    drops: &StepNumbers,
+    inputs: &GateNumbers,
     delays: &[u32],
     increases: &mut [u32],
     pair_widths: &mut [u32],
@@ -119,14 +122,14 @@ pub fn tree_increases(
     ticks: u32,
     n: u32,
     kinds: &[u32],
-    lefts: &[u32],
-    gates: &[u32],
-    rights: &[u32],
-    parents: &[u32],
-    counts: &[u32],
-    step_widths: &[u32],
-    drops: &[u32],
-    inputs: &[u32],
+    lefts: &NodeNumbers,
+    gates: &NodeNumbers,
+    rights: &NodeNumbers,
+    parents: &NodeNumbers,
+    counts: &GateNumbers,
+    step_widths: &StepNumbers,
+    drops: &StepNumbers,
+    inputs: &GateNumbers,
     delays: &[u32],
     increases: &mut [u32],
 ) -> u64

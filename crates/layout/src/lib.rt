@@ -6,7 +6,9 @@ use answers::best_lines::best_held;
 use loading::Loaded;
 use loading::load;
 use model::BestAnswer;
+use model::GateNumbers;
 use model::Refusal;
+use model::StepNumbers;
 ghost use mathlib.Core.List.{List};
 ghost use Prim.Native.Nat.{ℕ, _*_, _≤_};
 ghost use lib.ListN.{length};
@@ -27,9 +29,9 @@ fn lay_best(
     activity: u32,
     delays: &[u32],
     activities: &[u32],
-    counts: &[u32],
-    step_widths: &[u32],
-    drops: &[u32],
+    counts: &GateNumbers,
+    step_widths: &StepNumbers,
+    drops: &StepNumbers,
     sources: &[u32],
     targets: &[u32],
     wire_delays: &[u32],

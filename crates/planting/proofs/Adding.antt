@@ -12,7 +12,7 @@ use Rattle.parts.specs.Nodes.{leaf, chain, beside, Nodes, node-tree, tree-of, T
 use Rattle.parts.proofs.Nodes.{tree-at, tree-wire, SameNode, grown}
 use Rattle.optimum.specs.Tree.{Tree, count, Once, size, zeros, longest}
 use Rattle.optimum.proofs.Count.{is-self}
-use Rattle.planting.specs.Copy.{Plot, nodes-of, with-leaf, with-parent, copied, Room}
+use Rattle.planting.specs.Copy.{Plot, nodes-of, with-leaf, with-parent, copied, Room, AsLong}
 use Rattle.planting.specs.Planted.{as-tree, part, kind, left, gate, right, parent, Inside}
 
 -- The children of node k are nodes from c on, before k, and k is their parent.
@@ -334,36 +334,64 @@ module _
           own-gate = λ once j k a b d e. own-all once j k a d (place j b) (place k e);
         }
 
-pub leaf-room : (d c n : ℕ) (A : Plot) → Room A n → Room (with-leaf c d A) n
-leaf-room d c n A h =
+leaf-as-long : (d c : ℕ) (A : Plot) → AsLong A (with-leaf c d A)
+leaf-as-long d c A =
     record {
-      kind-room = rw (length-set (A .nodes .kinds) c 0) (h .kind-room);
-      left-room = rw (length-set (A .nodes .lefts) c 0) (h .left-room);
-      gate-room = rw (length-set (A .nodes .gates) c d) (h .gate-room);
-      right-room = rw (length-set (A .nodes .rights) c 0) (h .right-room);
-      parent-room = h .parent-room;
-      few = h .few;
+      kinds-kept = length-set (A .nodes .kinds) c 0;
+      lefts-kept = length-set (A .nodes .lefts) c 0;
+      gates-kept = length-set (A .nodes .gates) c d;
+      rights-kept = length-set (A .nodes .rights) c 0;
+      parents-kept = refl;
     }
 
-pub parent-room : (x l m r n : ℕ) (A : Plot) → Room A n → Room (with-parent x l m r A) n
-parent-room x l m r n A h =
+parent-as-long : (x l m r : ℕ) (A : Plot) → AsLong A (with-parent x l m r A)
+parent-as-long x l m r A =
     record {
-      kind-room = rw (length-set (A .nodes .kinds) r x) (h .kind-room);
-      left-room = rw (length-set (A .nodes .lefts) r (l - 1)) (h .left-room);
-      gate-room = rw (length-set (A .nodes .gates) r m) (h .gate-room);
-      right-room = rw (length-set (A .nodes .rights) r (r - 1)) (h .right-room);
-      parent-room = rw (length-set (set (A .parents) (l - 1) r) (r - 1) r, length-set (A .parents) (l - 1) r) (h .parent-room);
-      few = h .few;
+      kinds-kept = length-set (A .nodes .kinds) r x;
+      lefts-kept = length-set (A .nodes .lefts) r (l - 1);
+      gates-kept = length-set (A .nodes .gates) r m;
+      rights-kept = length-set (A .nodes .rights) r (r - 1);
+      parents-kept = length-set (set (A .parents) (l - 1) r) (r - 1) r ∙ length-set (A .parents) (l - 1) r;
+    }
+
+pub as-long-then : {A B C : Plot} → AsLong A B → AsLong B C → AsLong A C
+as-long-then a b =
+    record {
+      kinds-kept = b .kinds-kept ∙ a .kinds-kept;
+      lefts-kept = b .lefts-kept ∙ a .lefts-kept;
+      gates-kept = b .gates-kept ∙ a .gates-kept;
+      rights-kept = b .rights-kept ∙ a .rights-kept;
+      parents-kept = b .parents-kept ∙ a .parents-kept;
     }
 
 -- copying changes no length
-pub copied-room : (t : NodeTree) (c n : ℕ) (A : Plot) → Room A n → Room (copied t c A) n
+pub copied-as-long : (t : NodeTree) (c : ℕ) (A : Plot) → AsLong A (copied t c A)
 unfolding copied
-copied-room (leaf d) c n A h = leaf-room d c n A h
-copied-room (chain P m Q) c n A h =
-    parent-room 1 _ m _ n _ (copied-room Q (c + nodes-of P) n (copied P c A) (copied-room P c n A h))
-copied-room (beside P Q) c n A h =
-    parent-room 2 _ 0 _ n _ (copied-room Q (c + nodes-of P) n (copied P c A) (copied-room P c n A h))
+copied-as-long (leaf d) c A = leaf-as-long d c A
+copied-as-long (chain P m Q) c A =
+    as-long-then (as-long-then (copied-as-long P c A) (copied-as-long Q (c + nodes-of P) (copied P c A))) (parent-as-long 1 _ m _ _)
+copied-as-long (beside P Q) c A =
+    as-long-then (as-long-then (copied-as-long P c A) (copied-as-long Q (c + nodes-of P) (copied P c A))) (parent-as-long 2 _ 0 _ _)
+
+as-long-room : {A B : Plot} {n : ℕ} → AsLong A B → Room A n → Room B n
+as-long-room l h =
+    record {
+      kind-room = rw (l .kinds-kept) (h .kind-room);
+      left-room = rw (l .lefts-kept) (h .left-room);
+      gate-room = rw (l .gates-kept) (h .gate-room);
+      right-room = rw (l .rights-kept) (h .right-room);
+      parent-room = rw (l .parents-kept) (h .parent-room);
+      few = h .few;
+    }
+
+pub leaf-room : (d c n : ℕ) (A : Plot) → Room A n → Room (with-leaf c d A) n
+leaf-room d c n A h = as-long-room (leaf-as-long d c A) h
+
+pub parent-room : (x l m r n : ℕ) (A : Plot) → Room A n → Room (with-parent x l m r A) n
+parent-room x l m r n A h = as-long-room (parent-as-long x l m r A) h
+
+pub copied-room : (t : NodeTree) (c n : ℕ) (A : Plot) → Room A n → Room (copied t c A) n
+copied-room t c n A h = as-long-room (copied-as-long t c A) h
 
 -- room for n nodes is room for fewer
 pub less-room : {A : Plot} {m n : ℕ} → m ≤ n → Room A n → Room A m

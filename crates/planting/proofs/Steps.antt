@@ -19,14 +19,7 @@ children {T} {i} h n = go (h .children i (omega arith))
     go (inr c) = c
 
 pub readable-below : {T : Nodes} {i j : ℕ} → Readable T i → j < i → Readable T j
-readable-below h l =
-    record {
-      kind-in = omega (arith, h .kind-in);
-      left-in = omega (arith, h .left-in);
-      gate-in = omega (arith, h .gate-in);
-      right-in = omega (arith, h .right-in);
-      children = λ k n. h .children k (omega arith);
-    }
+readable-below h l = record { below = omega (arith, h .below); children = λ k n. h .children k (omega arith) }
 
 -- the tree t is copied, to the nodes from c to l
 pub record Done (t : Tree) (c : ℕ) (A : Plot) (l : ℕ) (B : Plot) : Type 0 where

@@ -4,6 +4,7 @@ use mathlib.Core.Logic.{_⊎_}
 use mathlib.Core.List.{List}
 use Prim.Native.Nat.{ℕ, _+_, _-_, _^_, _≤_, _<_}
 use lib.ListN.{length, getD, set}
+use Rattle.model.specs.Limits.{max-wires}
 use Rattle.parts.specs.Nodes.{Tree, leaf, chain, beside, Nodes}
 
 pub record Plot : Type 0 where
@@ -43,12 +44,17 @@ copied (chain P m Q) c A =
 copied (beside P Q) c A =
     with-parent 2 (c + nodes-of P) 0 (c + nodes-of P + nodes-of Q) (copied Q (c + nodes-of P) (copied P c A))
 
--- node i and the nodes below it stand in the arrays, and children have smaller numbers than their parents
+-- places of the arrays that a reduction leaves its nodes in: two for each wire that a block has at most
+abbrev pub max-reduced : ℕ
+max-reduced = max-wires + max-wires
+
+-- nodes of a block's tree, at most: a node less than two a wire, and four for the first and the last gate
+abbrev pub max-nodes : ℕ
+max-nodes = max-reduced + 3
+
+-- node i and the nodes below it stand in the arrays of a reduction, and children have smaller numbers than their parents
 pub record Readable (T : Nodes) (i : ℕ) : Type 0 where
-  pub kind-in : i < length (T .kinds)
-  pub left-in : i < length (T .lefts)
-  pub gate-in : i < length (T .gates)
-  pub right-in : i < length (T .rights)
+  pub below : i < max-reduced
   pub children : (j : ℕ) → j ≤ i → (getD (T .kinds) j 0 ≡ 0) ⊎ ((getD (T .lefts) j 0 < j) × (getD (T .rights) j 0 < j))
 
 -- the arrays have room for c nodes
@@ -59,6 +65,14 @@ pub record Room (A : Plot) (c : ℕ) : Type 0 where
   pub right-room : c ≤ length (A .nodes .rights)
   pub parent-room : c ≤ length (A .parents)
   pub few : c < 2 ^ 32
+
+-- the arrays of B are as long as those of A
+pub record AsLong (A B : Plot) : Type 0 where
+  pub kinds-kept : length (B .nodes .kinds) ≡ length (A .nodes .kinds)
+  pub lefts-kept : length (B .nodes .lefts) ≡ length (A .nodes .lefts)
+  pub gates-kept : length (B .nodes .gates) ≡ length (A .nodes .gates)
+  pub rights-kept : length (B .nodes .rights) ≡ length (A .nodes .rights)
+  pub parents-kept : length (B .parents) ≡ length (A .parents)
 
 -- the last of c nodes gets a parent's number that no node has
 abbrev pub rooted : ℕ → Plot → Plot

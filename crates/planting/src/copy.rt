@@ -1,4 +1,6 @@
 // A tree copied from node arrays into others, an occurrence of a node a new node.
+use crate::NodeNumbers;
+use crate::ReducedNumbers;
 use crate::node::index;
 use crate::node::write_leaf;
 use crate::node::write_parent;
@@ -10,15 +12,15 @@ ghost use Rattle.planting.specs.Copy.{nodes-in, nodes-of, plot, copied, 
 // Copies the tree of node i of the arrays kind, left, gate, right to the nodes from c on. Answers the number of nodes then.
 pub(crate) fn copy(
     i: usize,
-    kind: &[u32],
-    left: &[u32],
-    gate: &[u32],
-    right: &[u32],
-    kinds: &mut [u32],
-    lefts: &mut [u32],
-    gates: &mut [u32],
-    rights: &mut [u32],
-    parents: &mut [u32],
+    kind: &ReducedNumbers,
+    left: &ReducedNumbers,
+    gate: &ReducedNumbers,
+    right: &ReducedNumbers,
+    kinds: &mut NodeNumbers,
+    lefts: &mut NodeNumbers,
+    gates: &mut NodeNumbers,
+    rights: &mut NodeNumbers,
+    parents: &mut NodeNumbers,
     c: usize,
 ) -> usize
     requires { ⌜ Readable (nodes-in (now kind) (now left) (now gate) (now right)) i ⌝ }

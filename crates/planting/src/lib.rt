@@ -9,8 +9,14 @@ use node::write_root;
 ghost use mathlib.Core.Path.{_≡_};
 ghost use Prim.Native.Nat.{_+_};
 ghost use Rattle.parts.specs.Nodes.{tree-of};
-ghost use Rattle.planting.specs.Copy.{nodes-in, nodes-of, plot, Readable, Room};
+ghost use Rattle.planting.specs.Copy.{nodes-in, nodes-of, plot, Readable, Room, AsLong};
 ghost use Rattle.planting.specs.Planted.{Planted, whole, lone};
+
+// A number for each node of the tree that a reduction leaves.
+pub type ReducedNumbers = [u32; 512];
+
+// A number for each node of a planted tree.
+pub type NodeNumbers = [u32; 515];
 
 // Plants the tree of node i of the arrays kind, left, gate, right, between gates a and b. Answers the number of nodes; the top is the last.
 // Public for the crates above only: they have shown that node i is the root of a tree.
@@ -18,20 +24,21 @@ pub fn plant(
     i: usize,
     a: u32,
     b: u32,
-    kind: &[u32],
-    left: &[u32],
-    gate: &[u32],
-    right: &[u32],
-    kinds: &mut [u32],
-    lefts: &mut [u32],
-    gates: &mut [u32],
-    rights: &mut [u32],
-    parents: &mut [u32],
+    kind: &ReducedNumbers,
+    left: &ReducedNumbers,
+    gate: &ReducedNumbers,
+    right: &ReducedNumbers,
+    kinds: &mut NodeNumbers,
+    lefts: &mut NodeNumbers,
+    gates: &mut NodeNumbers,
+    rights: &mut NodeNumbers,
+    parents: &mut NodeNumbers,
 ) -> usize
     requires { ⌜ Readable (nodes-in (now kind) (now left) (now gate) (now right)) i ⌝ }
     requires { ⌜ Room (plot (now kinds) (now lefts) (now gates) (now rights) (now parents)) (nodes-of (whole a (tree-of (nodes-in (now kind) (now left) (now gate) (now right)) i) b)) ⌝ }
     ensures count { λ r. ⌜ r ≡ nodes-of (whole a (tree-of (nodes-in (now (kind .entry)) (now (left .entry)) (now (gate .entry)) (now (right .entry))) i) b) ⌝ }
     ensures planted { λ r. ⌜ Planted (whole a (tree-of (nodes-in (now (kind .entry)) (now (left .entry)) (now (gate .entry)) (now (right .entry))) i) b) r (plot (now (kinds .exit)) (now (lefts .exit)) (now (gates .exit)) (now (rights .exit)) (now (parents .exit))) ⌝ }
+    ensures long { λ r. ⌜ AsLong (plot (now (kinds .entry)) (now (lefts .entry)) (now (gates .entry)) (now (rights .entry)) (now (parents .entry))) (plot (now (kinds .exit)) (now (lefts .exit)) (now (gates .exit)) (now (rights .exit)) (now (parents .exit))) ⌝ }
 {
     write_leaf(kinds, lefts, gates, rights, parents, 0, 0);
     let l = copy(
@@ -57,15 +64,16 @@ pub fn plant(
 // Plants gate g alone. Answers the number of nodes; the top is the last.
 pub fn plant_lone(
     g: u32,
-    kinds: &mut [u32],
-    lefts: &mut [u32],
-    gates: &mut [u32],
-    rights: &mut [u32],
-    parents: &mut [u32],
+    kinds: &mut NodeNumbers,
+    lefts: &mut NodeNumbers,
+    gates: &mut NodeNumbers,
+    rights: &mut NodeNumbers,
+    parents: &mut NodeNumbers,
 ) -> usize
     requires { ⌜ Room (plot (now kinds) (now lefts) (now gates) (now rights) (now parents)) 3 ⌝ }
     ensures count { λ r. ⌜ r ≡ 3 ⌝ }
     ensures planted { λ r. ⌜ Planted (lone g) r (plot (now (kinds .exit)) (now (lefts .exit)) (now (gates .exit)) (now (rights .exit)) (now (parents .exit))) ⌝ }
+    ensures long { λ r. ⌜ AsLong (plot (now (kinds .entry)) (now (lefts .entry)) (now (gates .entry)) (now (rights .entry)) (now (parents .entry))) (plot (now (kinds .exit)) (now (lefts .exit)) (now (gates .exit)) (now (rights .exit)) (now (parents .exit))) ⌝ }
 {
     write_leaf(kinds, lefts, gates, rights, parents, 0, 0);
     write_leaf(kinds, lefts, gates, rights, parents, 1, 0);

@@ -2,6 +2,8 @@
 use crate::refusal::print_refusal;
 use answers::best_lines::best_held;
 use model::BestAnswer;
+use model::GateNumbers;
+use model::StepNumbers;
 use text::lines::write_block;
 use timing::slack::write_slacks;
 use timing::start::start_time;
@@ -78,9 +80,9 @@ pub fn print_held(
     activity: u32,
     delays: &[u32],
     activities: &[u32],
-    counts: &[u32],
-    step_widths: &[u32],
-    drops: &[u32],
+    counts: &GateNumbers,
+    step_widths: &StepNumbers,
+    drops: &StepNumbers,
     sources: &[u32],
     targets: &[u32],
     wire_delays: &[u32],

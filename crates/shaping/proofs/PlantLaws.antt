@@ -4,6 +4,7 @@ use mathlib.Core.Path.{_≡_, refl, sym, _∙_, ap}
 use mathlib.Core.List.{List}
 use Prim.Native.Nat.{ℕ, _-_, _≤_}
 use native.Mathlib.Omega.{arith}
+use lib.ListN.{length}
 use Rattle.model.specs.Limits.{max-gates, max-wires}
 use Rattle.model.specs.Block.{Block, gate-count, first, last}
 use Rattle.model.specs.Part.{SeriesParallel, built}
@@ -14,12 +15,12 @@ use Rattle.parts.specs.Wired.{Given as Reducible}
 use Rattle.parts.specs.Answered.{Rooted}
 use Rattle.parts.proofs.Gates.{part-ends}
 use Rattle.optimum.specs.BlockTree.{block-tree, lone-tree}
-use Rattle.planting.specs.Copy.{Plot, nodes-of, Readable, Room}
+use Rattle.planting.specs.Copy.{Plot, nodes-of, max-reduced, max-nodes, Readable, Room, AsLong}
 use Rattle.planting.specs.Planted.{as-tree, whole, lone, Planted}
 use Rattle.planting.proofs.Cutting.{rooted-readable}
 use Rattle.planting.proofs.Wires.{few-nodes}
 use Rattle.planting.proofs.Trees.{whole-converted}
-use Rattle.shaping.specs.PlantedBlock.{max-nodes, Given, NodesLong, PlantedOrNot}
+use Rattle.shaping.specs.PlantedBlock.{Given, NodesLong, PlantedOrNot}
 use Rattle.shaping.proofs.Facts.{network, no-wire-twice}
 
 -- There is room for any number of nodes up to the greatest.
@@ -32,6 +33,17 @@ few-room long c h =
       right-room = omega (arith, long .rights-long);
       parent-room = omega (arith, long .parents-long);
       few = omega arith;
+    }
+
+-- Arrays as long as arrays with room for the tree of any block have that room too.
+pub still-long : {A B : Plot} → NodesLong A → AsLong A B → NodesLong B
+still-long long same =
+    record {
+      kinds-long = omega (arith, long .kinds-long, same .kinds-kept);
+      lefts-long = omega (arith, long .lefts-long, same .lefts-kept);
+      gates-long = omega (arith, long .gates-long, same .gates-kept);
+      rights-long = omega (arith, long .rights-long, same .rights-kept);
+      parents-long = omega (arith, long .parents-long, same .parents-kept);
     }
 
 -- The tree of a block of one gate is that gate: the ends of a part are different gates.
@@ -59,9 +71,9 @@ module _ {B : Block} {n m : ℕ} {sources targets wire-delays : List ℕ} (given
   root-few {T} {t} r a b = omega (arith, few-nodes B (tree-of T t) (r .whole), given .limits .wires-most)
 
   -- The root can be copied, and there is room for its tree between two gates.
-  pub root-asked : {T : Nodes} {t k : ℕ} {A : Plot} → Rooted B T t k → NodesLong A → (a b : ℕ) → Readable T t × Room A (nodes-of (whole a (tree-of T t) b))
-  root-asked {T} {t} r long a b =
-      (rooted-readable r, few-room long (nodes-of (whole a (tree-of T t) b)) (root-few r a b))
+  pub root-asked : {T : Nodes} {t k : ℕ} {A : Plot} → Rooted B T t k → length (T .kinds) ≡ max-reduced → NodesLong A → (a b : ℕ) → Readable T t × Room A (nodes-of (whole a (tree-of T t) b))
+  root-asked {T} {t} r full long a b =
+      (rooted-readable r full, few-room long (nodes-of (whole a (tree-of T t) b)) (root-few r a b))
 
   -- What is planted is the block's tree, or there is none.
   pub unfit-planted : {A : Plot} → ¬ (SeriesParallel B) → PlantedOrNot B 0 A

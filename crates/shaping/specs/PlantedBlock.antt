@@ -3,7 +3,6 @@ use mathlib.Core.Path.{_≡_}
 use mathlib.Core.List.{List}
 use Prim.Native.Nat.{ℕ, _+_, _≤_, _<_}
 use lib.ListN.{length}
-use Rattle.model.specs.Limits.{max-wires}
 use Rattle.model.specs.Block.{Block}
 use Rattle.model.specs.Part.{SeriesParallel}
 use Rattle.model.specs.Refusal.{SoundNetwork}
@@ -11,12 +10,8 @@ use Rattle.model.proofs.Limited.{BlockLimits}
 use Rattle.parts.specs.Nodes.{Tree}
 use Rattle.parts.specs.Wired.{Wired}
 use Rattle.optimum.specs.BlockTree.{block-tree}
-use Rattle.planting.specs.Copy.{Plot}
+use Rattle.planting.specs.Copy.{Plot, max-nodes}
 use Rattle.planting.specs.Planted.{as-tree, Planted}
-
--- nodes of a block's tree, at most: a node less than two a wire, and four for the first and the last gate
-abbrev pub max-nodes : ℕ
-max-nodes = max-wires + max-wires + 3
 
 -- B is within the limits of a file, its network is sound, and its m wires stand in the arrays.
 pub record Given (B : Block) (n m : ℕ) (sources targets wire-delays : List ℕ) : Type 0 where

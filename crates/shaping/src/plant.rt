@@ -1,6 +1,7 @@
 // The tree of a block's parts, planted in node arrays.
 use parts::Answer;
 use parts::reduce_network;
+use planting::NodeNumbers;
 use planting::plant;
 use planting::plant_lone;
 ghost use Rattle.model.specs.Block.{Block};
@@ -15,16 +16,17 @@ pub fn plant_block(
     sources: &[u32],
     targets: &[u32],
     wire_delays: &[u32],
-    kinds: &mut [u32],
-    lefts: &mut [u32],
-    gates: &mut [u32],
-    rights: &mut [u32],
-    parents: &mut [u32],
+    kinds: &mut NodeNumbers,
+    lefts: &mut NodeNumbers,
+    gates: &mut NodeNumbers,
+    rights: &mut NodeNumbers,
+    parents: &mut NodeNumbers,
 ) -> usize
     requires { ⌜ ((B : Block) × Given B n m (now sources) (now targets) (now «wire_delays»)) ⌝ }
     requires { ⌜ WiresLong m (now sources) (now targets) (now «wire_delays») ⌝ }
     requires { ⌜ NodesLong (plot (now kinds) (now lefts) (now gates) (now rights) (now parents)) ⌝ }
-    ensures { λ r. ⌜ ((B : Block) → Given B n m (now (sources .entry)) (now (targets .entry)) (now («wire_delays» .entry)) → PlantedOrNot B r (plot (now (kinds .exit)) (now (lefts .exit)) (now (gates .exit)) (now (rights .exit)) (now (parents .exit)))) ⌝ }
+    ensures planted { λ r. ⌜ ((B : Block) → Given B n m (now (sources .entry)) (now (targets .entry)) (now («wire_delays» .entry)) → PlantedOrNot B r (plot (now (kinds .exit)) (now (lefts .exit)) (now (gates .exit)) (now (rights .exit)) (now (parents .exit)))) ⌝ }
+    ensures long { λ r. ⌜ NodesLong (plot (now (kinds .exit)) (now (lefts .exit)) (now (gates .exit)) (now (rights .exit)) (now (parents .exit))) ⌝ }
 {
     let mut live = [0u32; 256];
     let mut target = [0u32; 256];

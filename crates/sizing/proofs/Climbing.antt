@@ -6,8 +6,8 @@ use mathlib.Core.List.{List}
 use Prim.Native.Nat.{ℕ, _≤_, _<_}
 use native.Mathlib.Decide.{ℕ-discrete}
 use native.Mathlib.Omega.{arith}
-use lib.ListN.{length}
 use Rattle.parts.specs.Nodes.{Nodes}
+use Rattle.planting.specs.Copy.{max-nodes}
 use Rattle.sizing.specs.Plan.{node-count, parent}
 use Rattle.sizing.specs.Stored.{Stored, Made, Local, Lent, Up, top, over, Renewable, Renewed, put, head-below}
 use Rattle.sizing.proofs.Written.{local-renewed, local-beside, lent-put}
@@ -24,7 +24,7 @@ up-on parents i j (over _ l u) _ = (l, u)
 
 -- every node but k that was right, and those renewed, are right
 pub record Climbed (N : Nodes) (parents : List ℕ) (G H : Stored) (j i : ℕ) (H′ : Stored) (k : ℕ) : Type 0 where
-  pub lent : Lent N parents G H′
+  pub lent : Lent N G H′
   pub up : Up parents i k
   pub still : (m : ℕ) → m < node-count N → m ≢ k → (m ≢ j → Local N G H m) → Local N G H′ m
 
@@ -53,8 +53,8 @@ module _ {N : Nodes} {parents : List ℕ} {G H : Stored} {j i : ℕ} (able : Ren
               (local-renewed N parents (able .shaped) G H′ k (rw s at l) (climb-makes .room))
           go (no o) = local-beside N parents (able .shaped) G H′ k m _ l o d (climbed .still m l o at)
 
-      lent-after : Lent N parents G H″
-      lent-after = subst (λ (T : Stored). Lent N parents G T) (sym e) (lent-put N parents G H′ k _ (climbed .lent))
+      lent-after : Lent N G H″
+      lent-after = subst (λ (T : Stored). Lent N G T) (sym e) (lent-put N G H′ k _ (climbed .lent))
 
       pub climb-further : {p : ℕ} → p ≡ parent parents k → k < i → Climbed N parents G H j i H″ p
       climb-further s l = rw s (record { lent = lent-after; up = up-on parents i k (climbed .up) l .1; still = after })
@@ -67,5 +67,5 @@ module _ {N : Nodes} {parents : List ℕ} {G H : Stored} {j i : ℕ} (able : Ren
         let u = up-on parents i k (climbed .up) l in
         let v = up-within parents i _ (u .1) in (omega (arith, u .0), omega arith)
 
-    pub at-parent : k < length parents
-    at-parent = let w = within in omega (arith, able .node, climbed .lent .parents-long)
+    pub at-parent : k < max-nodes
+    at-parent = let w = within in omega (arith, able .node, able .shaped .few-nodes)

@@ -81,7 +81,7 @@ module _ {P : Plan} {S : State} {i : ℕ} (standing : Standing P S i) (node : i 
       record {
         sound = standing .sound;
         above = standing .above;
-        lent = subst (λ (T : Stored). Lent N (P .parents) (S .gates) T) (sym e) (lent-put N (P .parents) (S .gates) (S .nodes) i _ (standing .lent));
+        lent = subst (λ (T : Stored). Lent N (S .gates) T) (sym e) (lent-put N (S .gates) (S .nodes) i _ (standing .lent));
         fresh = record { long = standing .fresh .long; room = standing .fresh .room; right = standing .fresh .right };
         local = λ k l. subst (λ (T : Stored). Local N (S .gates) T k) (sym e) (all k l);
       }

@@ -43,7 +43,7 @@ module _ {N : Nodes} {G H : Stored} {k : ℕ} (m : Made N G H k) where
   renewed e f = e ∙ ap (put H k) f
 
 -- where the heads below node k are right, they can be read and their sum fits
-pub can-make : (N : Nodes) (parents : List ℕ) (G H : Stored) (k : ℕ) → Shaped N parents → Lent N parents G H → k < node-count N
+pub can-make : (N : Nodes) (parents : List ℕ) (G H : Stored) (k : ℕ) → Shaped N parents → Lent N G H → k < node-count N
     → ((j : ℕ) → j < k → Local N G H j) → Made N G H k
 can-make N parents G H k shaped lent l local =
     record {

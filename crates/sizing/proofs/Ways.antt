@@ -185,14 +185,13 @@ module _ (P : Plan) (S : State) (i : ℕ) (ready : Ready P S i) where
                   getD-set-other x (gate N j) g (getD x (gate N j) 0 + w) 0 d,
                 ) (ready .fresh .right g l)
 
-        lent-after : Lent N (P .parents) G′ H
+        lent-after : Lent N G′ H
         lent-after =
             let t = ready .lent in
             record {
               lefts-long = t .lefts-long;
               gates-long = t .gates-long;
               rights-long = t .rights-long;
-              parents-long = t .parents-long;
               room = t .room;
               gate-room = λ k l e. rw (added .written) (room-put G (gate N j) (gate N k) _ (t .gate-room k l e));
               gate-gain = λ k l e.

@@ -77,13 +77,12 @@ module _ (N : Nodes) (parents : List ℕ) (shaped : Shaped N parents) where
       (λ q. beside-put G (gate N j) (gate N k) a (λ e. d (shaped .own-gate k j l lj q s e)))
       (λ q. refl)
 
-pub lent-put : (N : Nodes) (parents : List ℕ) (G H : Stored) (i : ℕ) (a : Head) → Lent N parents G H → Lent N parents G (put H i a)
-lent-put N parents G H i a t =
+pub lent-put : (N : Nodes) (G H : Stored) (i : ℕ) (a : Head) → Lent N G H → Lent N G (put H i a)
+lent-put N G H i a t =
     record {
       lefts-long = t .lefts-long;
       gates-long = t .gates-long;
       rights-long = t .rights-long;
-      parents-long = t .parents-long;
       room = λ k l. room-put H i k a (t .room k l);
       gate-room = t .gate-room;
       gate-gain = t .gate-gain;

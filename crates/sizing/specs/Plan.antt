@@ -11,6 +11,7 @@ use Rattle.model.specs.Block.{Step}
 use Rattle.model.specs.Gain.{drop-of}
 use Rattle.model.specs.Arrays.{step-at}
 use Rattle.parts.specs.Nodes.{Nodes, tree-of}
+use Rattle.planting.specs.Copy.{max-nodes}
 use Rattle.planting.specs.Planted.{as-tree}
 use Rattle.optimum.specs.Tree.{Tree, Once, Below, size}
 use Rattle.optimum.specs.Head.{Head, Heads, no-head, rank}
@@ -53,8 +54,9 @@ most-input = max-wires * max-activity
 abbrev pub most-gain : ℕ
 most-gain = most-input * max-drop
 
--- Children have smaller numbers than their parent, whose number stands in `parents`; a gate stands at one series node, and once in a part.
+-- Children have smaller numbers than their parent, whose number stands in `parents`; a gate stands at one series node, and once in a part. No more nodes than a block's tree can have.
 pub record Shaped (N : Nodes) (parents : List ℕ) : Type 0 where
+  pub few-nodes : node-count N ≤ max-nodes
   pub left-below : (k : ℕ) → k < node-count N → 0 < kind N k → left N k < k
   pub right-below : (k : ℕ) → k < node-count N → 0 < kind N k → right N k < k
   pub left-parent : (k : ℕ) → k < node-count N → 0 < kind N k → parent parents (left N k) ≡ k

@@ -44,7 +44,7 @@ pub record Unslowed (heads : ℕ → ℕ → Head) (n : ℕ) (x : List ℕ) (G :
 pub record Standing (P : Plan) (S : State) (i : ℕ) : Type 0 where
   pub sound : Sound P
   pub above : (k : ℕ) → k < node-count (P .nodes) → k < parent (P .parents) k
-  pub lent : Lent (P .nodes) (P .parents) (S .gates) (S .nodes)
+  pub lent : Lent (P .nodes) (S .gates) (S .nodes)
   pub fresh : Fresh P S
   pub local : (k : ℕ) → k < i → Local (P .nodes) (S .gates) (S .nodes) k
 
@@ -63,7 +63,7 @@ pub record Raisable (P : Plan) (S : State) : Type 0 where
   pub above : (k : ℕ) → k < node-count (P .nodes) → k < parent (P .parents) k
   pub some-node : 0 < node-count (P .nodes)
   pub whole : (g : ℕ) → g < P .gate-count → 0 < count (part (P .nodes) (root P)) g
-  pub lent : Lent (P .nodes) (P .parents) (S .gates) (S .nodes)
+  pub lent : Lent (P .nodes) (S .gates) (S .nodes)
   pub fresh : Fresh P S
   pub one-each : length (S .increases) ≡ P .gate-count
   pub no-increase : (g : ℕ) → g < P .gate-count → getD (S .increases) g 0 ≡ 0
@@ -71,7 +71,7 @@ pub record Raisable (P : Plan) (S : State) : Type 0 where
 -- The increases are those of the raised start, and the heads of all nodes are right.
 pub record Raised (P : Plan) (d : ℕ → ℕ) (S : State) : Type 0 where
   pub increases : S .increases ≡ raise-list d (P .heads) (part (P .nodes) (root P)) (replicate (P .gate-count) 0)
-  pub lent : Lent (P .nodes) (P .parents) (S .gates) (S .nodes)
+  pub lent : Lent (P .nodes) (S .gates) (S .nodes)
   pub fresh : Fresh P S
   pub local : (k : ℕ) → k < node-count (P .nodes) → Local (P .nodes) (S .gates) (S .nodes) k
 
@@ -84,7 +84,6 @@ pub record Sizable (P : Plan) (S : State) : Type 0 where
   pub lefts-long : node-count (P .nodes) ≤ length (P .nodes .lefts)
   pub gates-long : node-count (P .nodes) ≤ length (P .nodes .gates)
   pub rights-long : node-count (P .nodes) ≤ length (P .nodes .rights)
-  pub parents-long : node-count (P .nodes) ≤ length (P .parents)
   pub room : (k : ℕ) → k < node-count (P .nodes) → Room (S .nodes) k
   pub gate-room : (g : ℕ) → g < P .gate-count → Room (S .gates) g
   pub one-each : length (S .increases) ≡ P .gate-count

@@ -28,7 +28,7 @@ pub record Fresh (P : Plan) (S : State) : Type 0 where
 -- Ticks can be handed out at node i: the heads of all gates and of the nodes up to i are right.
 pub record Ready (P : Plan) (S : State) (i : ℕ) : Type 0 where
   pub sound : Sound P
-  pub lent : Lent (P .nodes) (P .parents) (S .gates) (S .nodes)
+  pub lent : Lent (P .nodes) (S .gates) (S .nodes)
   pub fresh : Fresh P S
   pub node : i < node-count (P .nodes)
   pub local : (k : ℕ) → k ≤ i → Local (P .nodes) (S .gates) (S .nodes) k
@@ -40,7 +40,7 @@ Fitting S i w = 0 < head-at (S .nodes) i .gain → w ≤ head-at (S .nodes) i .w
 -- w ticks have been handed out at node i: heads that were right still are, but for that of node p
 pub record GivenOut (P : Plan) (S S′ : State) (i w p : ℕ) : Type 0 where
   pub increases : S′ .increases ≡ give-list (P .heads) (part (P .nodes) i) w (S .increases)
-  pub lent : Lent (P .nodes) (P .parents) (S′ .gates) (S′ .nodes)
+  pub lent : Lent (P .nodes) (S′ .gates) (S′ .nodes)
   pub fresh : Fresh P S′
   pub keeps : Keeps (P .nodes) (S .gates) (S .nodes) (S′ .gates) (S′ .nodes) p
 
@@ -52,7 +52,7 @@ pub record Added (heads : ℕ → ℕ → Head) (x x′ : List ℕ) (G G′ : St
 -- k ticks have been handed out at node i, run by run: heads that were right still are, but for that of i's parent
 pub record TickedOut (P : Plan) (S S′ : State) (i k : ℕ) : Type 0 where
   pub increases : S′ .increases ≡ ticks-list (P .heads) (part (P .nodes) i) k (S .increases)
-  pub lent : Lent (P .nodes) (P .parents) (S′ .gates) (S′ .nodes)
+  pub lent : Lent (P .nodes) (S′ .gates) (S′ .nodes)
   pub fresh : Fresh P S′
   pub keeps : Keeps (P .nodes) (S .gates) (S .nodes) (S′ .gates) (S′ .nodes) (parent (P .parents) i)
 

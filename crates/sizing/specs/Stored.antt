@@ -61,11 +61,10 @@ pub record Keeps (N : Nodes) (G H G′ H′ : Stored) (p : ℕ) : Type 0 where
   pub still : (k : ℕ) → k < node-count N → k ≢ p → Local N G H k → Local N G′ H′ k
 
 -- The node arrays and both arrays of heads have a place for every node and for the gate of every series node, whose gain is not too great.
-pub record Lent (N : Nodes) (parents : List ℕ) (G H : Stored) : Type 0 where
+pub record Lent (N : Nodes) (G H : Stored) : Type 0 where
   pub lefts-long : node-count N ≤ length (N .lefts)
   pub gates-long : node-count N ≤ length (N .gates)
   pub rights-long : node-count N ≤ length (N .rights)
-  pub parents-long : node-count N ≤ length parents
   pub room : (k : ℕ) → k < node-count N → Room H k
   pub gate-room : (k : ℕ) → k < node-count N → kind N k ≡ 1 → Room G (gate N k)
   pub gate-gain : (k : ℕ) → k < node-count N → kind N k ≡ 1 → head-at G (gate N k) .gain ≤ most-gain
@@ -103,12 +102,12 @@ pub data Up (parents : List ℕ) (i : ℕ) : ℕ → Type 0 where
 -- The heads from node j along the parents up to node i can be renewed: those of all other nodes up to i are right.
 pub record Renewable (N : Nodes) (parents : List ℕ) (G H : Stored) (j i : ℕ) : Type 0 where
   pub shaped : Shaped N parents
-  pub lent : Lent N parents G H
+  pub lent : Lent N G H
   pub node : i < node-count N
   pub up : Up parents i j
   pub local : (k : ℕ) → k ≤ i → k ≢ j → Local N G H k
 
 -- They have been renewed: the head of node j is right too, and every other that was still is, but for that of i's parent.
 pub record Renewed (N : Nodes) (parents : List ℕ) (G H H′ : Stored) (j i : ℕ) : Type 0 where
-  pub lent : Lent N parents G H′
+  pub lent : Lent N G H′
   pub still : (k : ℕ) → k < node-count N → k ≢ parent parents i → (k ≢ j → Local N G H k) → Local N G H′ k

@@ -1,10 +1,14 @@
 // The head of a node made from those just below it.
+use crate::store::GateGains;
+use crate::store::NodeGains;
 use crate::store::head_at;
 use crate::store::index;
 use crate::store::write_head;
+use model::GateNumbers;
 use optimum::Head;
 use optimum::beside;
 use optimum::best_of;
+use planting::NodeNumbers;
 ghost use mathlib.Core.Path.{_≡_};
 ghost use Rattle.optimum.specs.Code.{head-of};
 ghost use Rattle.sizing.specs.Plan.{nodes-in};
@@ -47,15 +51,15 @@ fn head_below(
 pub fn renew(
     i: usize,
     kinds: &[u32],
-    lefts: &[u32],
-    gates: &[u32],
-    rights: &[u32],
-    gate_widths: &[u32],
-    gate_gains: &[u64],
-    gate_ranks: &[u32],
-    widths: &mut [u32],
-    gains: &mut [u64],
-    ranks: &mut [u32],
+    lefts: &NodeNumbers,
+    gates: &NodeNumbers,
+    rights: &NodeNumbers,
+    gate_widths: &GateNumbers,
+    gate_gains: &GateGains,
+    gate_ranks: &GateNumbers,
+    widths: &mut NodeNumbers,
+    gains: &mut NodeGains,
+    ranks: &mut NodeNumbers,
 )
     requires { ⌜ Made (nodes-in (now kinds) (now lefts) (now gates) (now rights)) (stored (now «gate_widths») (now «gate_gains») (now «gate_ranks»)) (stored (now widths) (now gains) (now ranks)) i ⌝ }
     ensures { λ r. ⌜ stored (now (widths .exit)) (now (gains .exit)) (now (ranks .exit)) ≡ put (stored (now (widths .entry)) (now (gains .entry)) (now (ranks .entry))) i (head-below (nodes-in (now (kinds .entry)) (now (lefts .entry)) (now (gates .entry)) (now (rights .entry))) (stored (now («gate_widths» .entry)) (now («gate_gains» .entry)) (now («gate_ranks» .entry))) (stored (now (widths .entry)) (now (gains .entry)) (now (ranks .entry))) i) ⌝ }
@@ -81,16 +85,16 @@ pub fn renew_up(
     j: usize,
     i: usize,
     kinds: &[u32],
-    lefts: &[u32],
-    gates: &[u32],
-    rights: &[u32],
-    parents: &[u32],
-    gate_widths: &[u32],
-    gate_gains: &[u64],
-    gate_ranks: &[u32],
-    widths: &mut [u32],
-    gains: &mut [u64],
-    ranks: &mut [u32],
+    lefts: &NodeNumbers,
+    gates: &NodeNumbers,
+    rights: &NodeNumbers,
+    parents: &NodeNumbers,
+    gate_widths: &GateNumbers,
+    gate_gains: &GateGains,
+    gate_ranks: &GateNumbers,
+    widths: &mut NodeNumbers,
+    gains: &mut NodeGains,
+    ranks: &mut NodeNumbers,
 )
     requires { ⌜ Renewable (nodes-in (now kinds) (now lefts) (now gates) (now rights)) (now parents) (stored (now «gate_widths») (now «gate_gains») (now «gate_ranks»)) (stored (now widths) (now gains) (now ranks)) j i ⌝ }
     ensures { λ r. ⌜ Renewed (nodes-in (now (kinds .entry)) (now (lefts .entry)) (now (gates .entry)) (now (rights .entry))) (now (parents .entry)) (stored (now («gate_widths» .entry)) (now («gate_gains» .entry)) (now («gate_ranks» .entry))) (stored (now (widths .entry)) (now (gains .entry)) (now (ranks .entry))) (stored (now (widths .exit)) (now (gains .exit)) (now (ranks .exit))) j i ⌝ }

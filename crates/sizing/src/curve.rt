@@ -1,6 +1,11 @@
 // Ticks spent at a node run by run, and the curve of the runs: neighbours of one gain are joined. With ticks for all steps it is the curve of the node.
 use crate::handout::series_give_out;
+use crate::store::GateGains;
+use crate::store::NodeGains;
 use crate::ticks::next_run;
+use model::GateNumbers;
+use model::StepNumbers;
+use planting::NodeNumbers;
 ghost use mathlib.Core.Path.{_≡_};
 ghost use Prim.Native.Nat.{ℕ, _+_, _-_, _^_, _≤_, _<_};
 ghost use lib.ListN.{length, getD};
@@ -52,21 +57,21 @@ pub fn spend_ticks(
     steps: usize,
     n: u32,
     kinds: &[u32],
-    lefts: &[u32],
-    gates: &[u32],
-    rights: &[u32],
-    parents: &[u32],
-    counts: &[u32],
-    step_widths: &[u32],
-    drops: &[u32],
-    inputs: &[u32],
+    lefts: &NodeNumbers,
+    gates: &NodeNumbers,
+    rights: &NodeNumbers,
+    parents: &NodeNumbers,
+    counts: &GateNumbers,
+    step_widths: &StepNumbers,
+    drops: &StepNumbers,
+    inputs: &GateNumbers,
     increases: &mut [u32],
-    gate_widths: &mut [u32],
-    gate_gains: &mut [u64],
-    gate_ranks: &mut [u32],
-    widths: &mut [u32],
-    gains: &mut [u64],
-    ranks: &mut [u32],
+    gate_widths: &mut GateNumbers,
+    gate_gains: &mut GateGains,
+    gate_ranks: &mut GateNumbers,
+    widths: &mut NodeNumbers,
+    gains: &mut NodeGains,
+    ranks: &mut NodeNumbers,
     pair_widths: &mut [u32],
     pair_gains: &mut [u32],
 ) -> usize

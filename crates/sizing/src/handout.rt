@@ -1,8 +1,13 @@
 // Ticks handed out at a node: in series to the item that leads, in parallel to both sides. The two functions call each other; each hand-over from a parallel part is to one with fewer wires.
 use crate::below::renew_up;
 use crate::gate::gate_give_out;
+use crate::store::GateGains;
+use crate::store::NodeGains;
 use crate::store::index;
 use crate::way::descend;
+use model::GateNumbers;
+use model::StepNumbers;
+use planting::NodeNumbers;
 ghost use Prim.Native.Nat.{_<_};
 ghost use Rattle.sizing.specs.Plan.{plan, nodes-in, heads-in, kind, parent, StepsLent};
 ghost use Rattle.sizing.specs.State.{state, Ready, Fitting, GivenOut};
@@ -13,21 +18,21 @@ pub fn series_give_out(
     w: u32,
     n: u32,
     kinds: &[u32],
-    lefts: &[u32],
-    gates: &[u32],
-    rights: &[u32],
-    parents: &[u32],
-    counts: &[u32],
-    step_widths: &[u32],
-    drops: &[u32],
-    inputs: &[u32],
+    lefts: &NodeNumbers,
+    gates: &NodeNumbers,
+    rights: &NodeNumbers,
+    parents: &NodeNumbers,
+    counts: &GateNumbers,
+    step_widths: &StepNumbers,
+    drops: &StepNumbers,
+    inputs: &GateNumbers,
     increases: &mut [u32],
-    gate_widths: &mut [u32],
-    gate_gains: &mut [u64],
-    gate_ranks: &mut [u32],
-    widths: &mut [u32],
-    gains: &mut [u64],
-    ranks: &mut [u32],
+    gate_widths: &mut GateNumbers,
+    gate_gains: &mut GateGains,
+    gate_ranks: &mut GateNumbers,
+    widths: &mut NodeNumbers,
+    gains: &mut NodeGains,
+    ranks: &mut NodeNumbers,
 )
     requires { ⌜ Ready (plan n (now kinds) (now lefts) (now gates) (now rights) (now parents) (heads-in n (now counts) (now «step_widths») (now drops) (now inputs))) (state (now increases) (now «gate_widths») (now «gate_gains») (now «gate_ranks») (now widths) (now gains) (now ranks)) i ⌝ }
     requires { ⌜ StepsLent n (now counts) (now «step_widths») (now drops) (now inputs) ⌝ }
@@ -125,21 +130,21 @@ pub fn parallel_give_out(
     w: u32,
     n: u32,
     kinds: &[u32],
-    lefts: &[u32],
-    gates: &[u32],
-    rights: &[u32],
-    parents: &[u32],
-    counts: &[u32],
-    step_widths: &[u32],
-    drops: &[u32],
-    inputs: &[u32],
+    lefts: &NodeNumbers,
+    gates: &NodeNumbers,
+    rights: &NodeNumbers,
+    parents: &NodeNumbers,
+    counts: &GateNumbers,
+    step_widths: &StepNumbers,
+    drops: &StepNumbers,
+    inputs: &GateNumbers,
     increases: &mut [u32],
-    gate_widths: &mut [u32],
-    gate_gains: &mut [u64],
-    gate_ranks: &mut [u32],
-    widths: &mut [u32],
-    gains: &mut [u64],
-    ranks: &mut [u32],
+    gate_widths: &mut GateNumbers,
+    gate_gains: &mut GateGains,
+    gate_ranks: &mut GateNumbers,
+    widths: &mut NodeNumbers,
+    gains: &mut NodeGains,
+    ranks: &mut NodeNumbers,
 )
     requires { ⌜ 1 < kind (nodes-in (now kinds) (now lefts) (now gates) (now rights)) i ⌝ }
     requires { ⌜ Ready (plan n (now kinds) (now lefts) (now gates) (now rights) (now parents) (heads-in n (now counts) (now «step_widths») (now drops) (now inputs))) (state (now increases) (now «gate_widths») (now «gate_gains») (now «gate_ranks») (now widths) (now gains) (now ranks)) i ⌝ }

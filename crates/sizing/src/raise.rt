@@ -1,7 +1,12 @@
 // The raised start: inside out, each side of a parallel node gets the ticks that it lacks to the other.
 use crate::below::renew;
+use crate::store::GateGains;
+use crate::store::NodeGains;
 use crate::store::index;
 use crate::ticks::ticks_out;
+use model::GateNumbers;
+use model::StepNumbers;
+use planting::NodeNumbers;
 ghost use mathlib.Core.Path.{_≡_};
 ghost use Prim.Native.Nat.{ℕ, _-_, _≤_, _<_};
 ghost use lib.ListN.{length};
@@ -21,22 +26,22 @@ fn raise_sides(
     i: usize,
     n: u32,
     kinds: &[u32],
-    lefts: &[u32],
-    gates: &[u32],
-    rights: &[u32],
-    parents: &[u32],
-    counts: &[u32],
-    step_widths: &[u32],
-    drops: &[u32],
-    inputs: &[u32],
+    lefts: &NodeNumbers,
+    gates: &NodeNumbers,
+    rights: &NodeNumbers,
+    parents: &NodeNumbers,
+    counts: &GateNumbers,
+    step_widths: &StepNumbers,
+    drops: &StepNumbers,
+    inputs: &GateNumbers,
     lengths: &[u32],
     increases: &mut [u32],
-    gate_widths: &mut [u32],
-    gate_gains: &mut [u64],
-    gate_ranks: &mut [u32],
-    widths: &mut [u32],
-    gains: &mut [u64],
-    ranks: &mut [u32],
+    gate_widths: &mut GateNumbers,
+    gate_gains: &mut GateGains,
+    gate_ranks: &mut GateNumbers,
+    widths: &mut NodeNumbers,
+    gains: &mut NodeGains,
+    ranks: &mut NodeNumbers,
 )
     requires { ⌜ Standing (plan n (now kinds) (now lefts) (now gates) (now rights) (now parents) (heads-in n (now counts) (now «step_widths») (now drops) (now inputs))) (state (now increases) (now «gate_widths») (now «gate_gains») (now «gate_ranks») (now widths) (now gains) (now ranks)) i ⌝ }
     requires { ⌜ StepsLent n (now counts) (now «step_widths») (now drops) (now inputs) ⌝ }
@@ -99,22 +104,22 @@ fn raise_sides(
 pub fn raise_and_fill(
     n: u32,
     kinds: &[u32],
-    lefts: &[u32],
-    gates: &[u32],
-    rights: &[u32],
-    parents: &[u32],
-    counts: &[u32],
-    step_widths: &[u32],
-    drops: &[u32],
-    inputs: &[u32],
+    lefts: &NodeNumbers,
+    gates: &NodeNumbers,
+    rights: &NodeNumbers,
+    parents: &NodeNumbers,
+    counts: &GateNumbers,
+    step_widths: &StepNumbers,
+    drops: &StepNumbers,
+    inputs: &GateNumbers,
     lengths: &[u32],
     increases: &mut [u32],
-    gate_widths: &mut [u32],
-    gate_gains: &mut [u64],
-    gate_ranks: &mut [u32],
-    widths: &mut [u32],
-    gains: &mut [u64],
-    ranks: &mut [u32],
+    gate_widths: &mut GateNumbers,
+    gate_gains: &mut GateGains,
+    gate_ranks: &mut GateNumbers,
+    widths: &mut NodeNumbers,
+    gains: &mut NodeGains,
+    ranks: &mut NodeNumbers,
 )
     requires { ⌜ Raisable (plan n (now kinds) (now lefts) (now gates) (now rights) (now parents) (heads-in n (now counts) (now «step_widths») (now drops) (now inputs))) (state (now increases) (now «gate_widths») (now «gate_gains») (now «gate_ranks») (now widths) (now gains) (now ranks)) ⌝ }
     requires { ⌜ StepsLent n (now counts) (now «step_widths») (now drops) (now inputs) ⌝ }

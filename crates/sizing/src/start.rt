@@ -2,6 +2,11 @@
 use crate::gate::unslowed_heads;
 use crate::length::part_lengths;
 use crate::raise::raise_and_fill;
+use crate::store::GateGains;
+use crate::store::NodeGains;
+use model::GateNumbers;
+use model::StepNumbers;
+use planting::NodeNumbers;
 ghost use Rattle.sizing.specs.Plan.{plan, nodes-in, heads-in, StepsLent};
 ghost use Rattle.sizing.specs.State.{state};
 ghost use Rattle.sizing.specs.Raise.{Measurable, Raised, Sizable, delays-in};
@@ -11,23 +16,23 @@ ghost use Rattle.sizing.specs.Raise.{Measurable, Raised, Sizable, delays
 pub fn start(
     n: u32,
     kinds: &[u32],
-    lefts: &[u32],
-    gates: &[u32],
-    rights: &[u32],
-    parents: &[u32],
-    counts: &[u32],
-    step_widths: &[u32],
-    drops: &[u32],
-    inputs: &[u32],
+    lefts: &NodeNumbers,
+    gates: &NodeNumbers,
+    rights: &NodeNumbers,
+    parents: &NodeNumbers,
+    counts: &GateNumbers,
+    step_widths: &StepNumbers,
+    drops: &StepNumbers,
+    inputs: &GateNumbers,
     delays: &[u32],
     lengths: &mut [u32],
     increases: &mut [u32],
-    gate_widths: &mut [u32],
-    gate_gains: &mut [u64],
-    gate_ranks: &mut [u32],
-    widths: &mut [u32],
-    gains: &mut [u64],
-    ranks: &mut [u32],
+    gate_widths: &mut GateNumbers,
+    gate_gains: &mut GateGains,
+    gate_ranks: &mut GateNumbers,
+    widths: &mut NodeNumbers,
+    gains: &mut NodeGains,
+    ranks: &mut NodeNumbers,
 )
     requires { ⌜ Sizable (plan n (now kinds) (now lefts) (now gates) (now rights) (now parents) (heads-in n (now counts) (now «step_widths») (now drops) (now inputs))) (state (now increases) (now «gate_widths») (now «gate_gains») (now «gate_ranks») (now widths) (now gains) (now ranks)) ⌝ }
     requires { ⌜ StepsLent n (now counts) (now «step_widths») (now drops) (now inputs) ⌝ }

@@ -4,6 +4,12 @@ ghost use mathlib.Core.Path.{_≡_};
 ghost use Rattle.optimum.specs.Code.{head-of};
 ghost use Rattle.sizing.specs.Stored.{Room, stored, head-at, put};
 
+// A gain for each gate.
+pub type GateGains = [u64; 64];
+
+// A gain for each node.
+pub type NodeGains = [u64; 515];
+
 // A stored number as an index.
 pub fn index(x: u32) -> usize
     ensures { λ r. ⌜ r ≡ x ⌝ }

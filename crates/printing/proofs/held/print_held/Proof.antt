@@ -9,7 +9,7 @@ slice-aggregate-best-held : tie.Need-slice-aggregate-best-held
 slice-aggregate-best-held c = search needs
 
 best-held-requires : tie.Need-best-held-requires
-best-held-requires c κs = (c .before .before .before .before .before .before .before .before .before .before .before .pre .0, the-lent (c .before .before .before .before .before .before .before .before .before .before .before .pre .0 .1) .gates)
+best-held-requires c κs = (c .before .before .before .before .before .before .before .before .pre .0, the-lent (c .before .before .before .before .before .before .before .before .pre .0 .1) .gates)
 
 enum-known-best : tie.Need-enum-known-best
 enum-known-best c = search needs
@@ -24,7 +24,7 @@ slice-aggregate-print-block : tie.Need-slice-aggregate-print-block
 slice-aggregate-print-block c = search needs
 
 print-block-requires : tie.Need-print-block-requires
-print-block-requires c κs = (c .before .before .before .before .before .before .before .before .before .before .before .before .before .before .before .before .before .before .pre .0, (sized (c .before .before .before .before .before .before .before .before .before .before .before .before .before .before .before .before .before .before .pre .0 .1) (rw (c .before .before .before .best2 .given .1) at (c .before .before .before .before .before .before .best-held .ensures (c .before .before .before .before .before .before .before .before .before .before .before .before .before .before .before .before .before .before .pre .0 .0) (c .before .before .before .before .before .before .before .before .before .before .before .before .before .before .before .before .before .before .pre .0 .1))) (c .before .before .before .before .before .before .best-held .kept .1 .1 .1 .1 .1 .1 .1 .1 .1 .1 .1 .1 .1 .1 .0), c .before .before .before .before .before .before .before .before .before .before .before .before .before .before .before .before .before .before .pre .1))
+print-block-requires c κs = (c .before .before .before .before .before .before .before .before .before .before .before .before .before .before .before .before .before .before .pre .0, (sized (c .before .before .before .before .before .before .before .before .before .before .before .before .before .before .before .before .before .before .pre .0 .1) (rw (c .before .before .before .before .before .before .best2 .given .1) at (c .before .before .before .before .before .before .before .before .before .best-held .ensures (c .before .before .before .before .before .before .before .before .before .before .before .before .before .before .before .before .before .before .pre .0 .0) (c .before .before .before .before .before .before .before .before .before .before .before .before .before .before .before .before .before .before .pre .0 .1))) (c .before .before .before .before .before .before .before .before .before .best-held .kept .1 .1 .1 .1 .1 .1 .1 .1 .1 .1 .1 .1 .1 .1 .0), c .before .before .before .before .before .before .before .before .before .before .before .before .before .before .before .before .before .before .pre .1))
 
 same-length : tie.Need-same-length
 same-length c = search needs
@@ -36,7 +36,7 @@ same-length-2 : tie.Need-same-length-2
 same-length-2 c = c .before .before .print-block .kept .1 .1 .1 .1 .1 .1 .1 .1 .1 .1 .1 .1 .1 .1 .1 .1 .0
 
 returns-2 : tie.Need-returns-2
-returns-2 c = λ file h. block-printed h (rw (c .before .before .before .before .before .before .best2 .given .1) at (c .before .before .before .before .before .before .before .before .before .best-held .ensures file h)) (c .before .before .before .before .before .before .before .before .before .best-held .kept .1 .1 .1 .1 .1 .1 .1 .1 .1 .1 .1 .1 .1 .1 .0) (c .before .before .print-block .ensures)
+returns-2 c = λ file h. block-printed h (rw (c .before .before .before .before .before .before .before .before .before .best2 .given .1) at (c .before .before .before .before .before .before .before .before .before .before .before .before .best-held .ensures file h)) (c .before .before .before .before .before .before .before .before .before .before .before .before .best-held .kept .1 .1 .1 .1 .1 .1 .1 .1 .1 .1 .1 .1 .1 .1 .0) (c .before .before .print-block .ensures)
 
 pub print-held-spec : {M : Type 1} → statement M
 print-held-spec = tie.close (tie.spec slice-aggregate-best-held best-held-requires enum-known-best print-refusal-requires enum-known-best-2 slice-aggregate-print-block print-block-requires same-length returns same-length-2 returns-2)

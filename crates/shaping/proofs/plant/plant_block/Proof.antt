@@ -2,7 +2,7 @@
 use borrow.Author.Needs.{needs}
 use Prim.Native.Nat.{_-_}
 use native.Mathlib.Omega.{arith}
-use Rattle.shaping.proofs.PlantLaws.{given-network, reducible, some-gate, few-gates, few-wires, few-room, root-asked, unfit-planted, lone-planted, root-planted}
+use Rattle.shaping.proofs.PlantLaws.{given-network, reducible, some-gate, few-gates, few-wires, few-room, still-long, root-asked, unfit-planted, lone-planted, root-planted}
 use Rattle.shaping.proofs.plant.plant_block.Statement.{statement}
 use Rattle.shaping.proofs.plant.plant_block.Tie as tie
 
@@ -34,7 +34,7 @@ slice-aggregate-reduce-network-9 : tie.Need-slice-aggregate-reduce-network-9
 slice-aggregate-reduce-network-9 c = search needs
 
 reduce-network-requires : tie.Need-reduce-network-requires
-reduce-network-requires c κs = let g = c .before .before .before .before .before .before .before .before .before .before .before .before .before .before .before .before .before .pre .0 .1 in let w = c .before .before .before .before .before .before .before .before .before .before .before .before .before .before .before .before .before .pre .1 .0 in (reducible g, (record { live-room = omega (arith, few-wires g); from-room = w .sources-long; to-room = omega (arith, few-wires g); top-room = omega (arith, few-wires g); kind-room = omega (arith, few-wires g); left-room = omega (arith, few-wires g); gate-room = omega (arith, few-wires g); right-room = omega (arith, few-wires g) }, (w .targets-long, (w .delays-long, (omega (arith, few-gates g), (omega (arith, few-gates g), (omega (arith, few-gates g), omega (arith, few-wires g))))))))
+reduce-network-requires c κs = let g = c .before .before .before .before .before .before .before .before .before .before .before .before .pre .0 .1 in let w = c .before .before .before .before .before .before .before .before .before .before .before .before .pre .1 .0 in (reducible g, (record { live-room = omega (arith, few-wires g); from-room = w .sources-long; to-room = omega (arith, few-wires g); top-room = omega (arith, few-wires g); kind-room = omega (arith, few-wires g); left-room = omega (arith, few-wires g); gate-room = omega (arith, few-wires g); right-room = omega (arith, few-wires g) }, (w .targets-long, (w .delays-long, (omega (arith, few-gates g), (omega (arith, few-gates g), (omega (arith, few-gates g), omega (arith, few-wires g))))))))
 
 enum-told : tie.Need-enum-told
 enum-told c = search needs
@@ -43,70 +43,28 @@ enum-told-2 : tie.Need-enum-told-2
 enum-told-2 c = search needs
 
 plant-lone-requires : tie.Need-plant-lone-requires
-plant-lone-requires c κs = few-room (c .before .before .before .before .before .before .before .before .before .before .before .before .before .before .before .before .before .before .before .before .before .before .before .before .before .before .before .before .before .before .before .before .before .before .pre .1 .1) 3 (omega arith)
+plant-lone-requires c κs = few-room (c .before .before .before .before .before .before .before .before .before .before .before .before .before .before .before .before .before .before .before .before .before .before .before .before .before .before .before .before .before .pre .1 .1) 3 (omega arith)
 
 enum-known-answer : tie.Need-enum-known-answer
 enum-known-answer c = search needs
 
 sub-plant : tie.Need-sub-plant
-sub-plant c = omega (arith, some-gate (c .before .before .before .before .before .before .before .before .before .before .before .before .before .before .before .before .before .before .before .before .before .before .before .before .before .before .before .before .before .before .pre .0 .1))
+sub-plant c = omega (arith, some-gate (c .before .before .before .before .before .before .before .before .before .before .before .before .before .before .before .before .before .before .before .before .before .before .before .before .before .pre .0 .1))
 
 cast-plant : tie.Need-cast-plant
-cast-plant c = record { fits = omega (arith, few-gates (c .before .before .before .before .before .before .before .before .before .before .before .before .before .before .before .before .before .before .before .before .before .before .before .before .before .before .before .before .before .before .pre .0 .1)) }
-
-slice-aggregate-plant : tie.Need-slice-aggregate-plant
-slice-aggregate-plant c = search needs
-
-slice-aggregate-plant-2 : tie.Need-slice-aggregate-plant-2
-slice-aggregate-plant-2 c = search needs
-
-slice-aggregate-plant-3 : tie.Need-slice-aggregate-plant-3
-slice-aggregate-plant-3 c = search needs
-
-slice-aggregate-plant-4 : tie.Need-slice-aggregate-plant-4
-slice-aggregate-plant-4 c = search needs
+cast-plant c = record { fits = omega (arith, few-gates (c .before .before .before .before .before .before .before .before .before .before .before .before .before .before .before .before .before .before .before .before .before .before .before .before .before .pre .0 .1)) }
 
 plant-requires : tie.Need-plant-requires
-plant-requires c κs = let g = c .before .before .before .before .before .before .before .before .before .before .before .before .before .before .before .before .before .before .before .before .before .before .before .before .before .before .before .before .before .before .before .before .before .before .before .before .before .before .before .pre .0 .1 in root-asked g (rw (c .before .before .before .before .before .before .before .before .before .before .answer .given .1) at (c .before .before .before .before .before .before .before .before .before .before .before .before .before .before .before .before .before .before .before .before .before .reduce-network .ensures _ (given-network g) (g .wired))) (c .before .before .before .before .before .before .before .before .before .before .before .before .before .before .before .before .before .before .before .before .before .before .before .before .before .before .before .before .before .before .before .before .before .before .before .before .before .before .before .pre .1 .1) 0 (c .before .before .before .before .before .before .before .before .before .before .before .before .before .before .before .before .before .before .before .before .before .before .before .before .before .before .before .before .before .before .before .before .before .before .before .before .before .before .before .args .n - 1)
+plant-requires c κs = let g = c .before .before .before .before .before .before .before .before .before .before .before .before .before .before .before .before .before .before .before .before .before .before .before .before .before .before .before .before .before .before .before .before .before .before .pre .0 .1 in root-asked g (rw (c .before .before .before .before .before .before .before .before .before .before .answer .given .1) at (c .before .before .before .before .before .before .before .before .before .before .before .before .before .before .before .before .before .before .before .before .before .reduce-network .ensures _ (given-network g) (g .wired))) (c .before .before .before .before .before .before .before .before .before .before .before .before .before .before .before .before .before .before .before .before .before .reduce-network .kept .1 .1 .1 .1 .1 .1 .0) (c .before .before .before .before .before .before .before .before .before .before .before .before .before .before .before .before .before .before .before .before .before .before .before .before .before .before .before .before .before .before .before .before .before .before .pre .1 .1) 0 (c .before .before .before .before .before .before .before .before .before .before .before .before .before .before .before .before .before .before .before .before .before .before .before .before .before .before .before .before .before .before .before .before .before .before .args .n - 1)
 
 returns : tie.Need-returns
-returns c = λ B g. unfit-planted g (rw (c .enum-told .given .1) at (c .before .before .before .before .before .before .before .before .before .before .before .reduce-network .ensures B (given-network g) (g .wired)))
-
-same-length : tie.Need-same-length
-same-length c = search needs
-
-same-length-2 : tie.Need-same-length-2
-same-length-2 c = search needs
-
-same-length-3 : tie.Need-same-length-3
-same-length-3 c = search needs
-
-same-length-4 : tie.Need-same-length-4
-same-length-4 c = search needs
-
-same-length-5 : tie.Need-same-length-5
-same-length-5 c = search needs
+returns c = (λ B g. unfit-planted g (rw (c .enum-told .given .1) at (c .before .before .before .before .before .before .before .before .before .before .before .reduce-network .ensures B (given-network g) (g .wired))), c .before .before .before .before .before .before .before .before .before .before .before .before .before .before .before .before .before .before .before .before .before .before .before .before .pre .1 .1)
 
 returns-2 : tie.Need-returns-2
-returns-2 c = λ B g. lone-planted g (rw (c .before .before .before .before .before .before .before .before .before .before .before .before .before .before .before .before .enum-told2 .given .1) at (c .before .before .before .before .before .before .before .before .before .before .before .before .before .before .before .before .before .before .before .before .before .before .before .before .before .before .before .reduce-network .ensures B (given-network g) (g .wired))) (c .before .before .before .before .before .before .before .before .before .before .plant-lone .ensures .0) (c .before .before .before .before .before .before .before .before .before .before .plant-lone .ensures .1)
-
-same-length-6 : tie.Need-same-length-6
-same-length-6 c = search needs
-
-same-length-7 : tie.Need-same-length-7
-same-length-7 c = search needs
-
-same-length-8 : tie.Need-same-length-8
-same-length-8 c = search needs
-
-same-length-9 : tie.Need-same-length-9
-same-length-9 c = search needs
-
-same-length-10 : tie.Need-same-length-10
-same-length-10 c = search needs
+returns-2 c = (λ B g. lone-planted g (rw (c .before .before .before .before .before .before .enum-told2 .given .1) at (c .before .before .before .before .before .before .before .before .before .before .before .before .before .before .before .before .before .reduce-network .ensures B (given-network g) (g .wired))) (c .plant-lone .ensures .0) (c .plant-lone .ensures .1 .0), still-long (c .before .before .before .before .before .before .before .before .before .before .before .before .before .before .before .before .before .before .before .before .before .before .before .before .before .before .before .before .before .before .pre .1 .1) (c .plant-lone .ensures .1 .1))
 
 returns-3 : tie.Need-returns-3
-returns-3 c = λ B g. root-planted g (rw (c .before .before .before .before .before .before .before .before .before .before .before .before .before .before .before .before .before .before .before .before .before .answer .given .1) at (c .before .before .before .before .before .before .before .before .before .before .before .before .before .before .before .before .before .before .before .before .before .before .before .before .before .before .before .before .before .before .before .before .reduce-network .ensures B (given-network g) (g .wired))) (c .before .before .before .before .before .before .before .before .before .before .plant .ensures .0) (c .before .before .before .before .before .before .before .before .before .before .plant .ensures .1)
+returns-3 c = (λ B g. root-planted g (rw (c .before .before .before .before .before .before .before .before .before .before .before .answer .given .1) at (c .before .before .before .before .before .before .before .before .before .before .before .before .before .before .before .before .before .before .before .before .before .before .reduce-network .ensures B (given-network g) (g .wired))) (c .plant .ensures .0) (c .plant .ensures .1 .0), still-long (c .before .before .before .before .before .before .before .before .before .before .before .before .before .before .before .before .before .before .before .before .before .before .before .before .before .before .before .before .before .before .before .before .before .before .before .pre .1 .1) (c .plant .ensures .1 .1))
 
 pub plant-block-spec : {M : Type 1} → statement M
-plant-block-spec = tie.close (tie.spec slice-aggregate-reduce-network slice-aggregate-reduce-network-2 slice-aggregate-reduce-network-3 slice-aggregate-reduce-network-4 slice-aggregate-reduce-network-5 slice-aggregate-reduce-network-6 slice-aggregate-reduce-network-7 slice-aggregate-reduce-network-8 slice-aggregate-reduce-network-9 reduce-network-requires enum-told enum-told-2 plant-lone-requires enum-known-answer sub-plant cast-plant slice-aggregate-plant slice-aggregate-plant-2 slice-aggregate-plant-3 slice-aggregate-plant-4 plant-requires returns same-length same-length-2 same-length-3 same-length-4 same-length-5 returns-2 same-length-6 same-length-7 same-length-8 same-length-9 same-length-10 returns-3)
+plant-block-spec = tie.close (tie.spec slice-aggregate-reduce-network slice-aggregate-reduce-network-2 slice-aggregate-reduce-network-3 slice-aggregate-reduce-network-4 slice-aggregate-reduce-network-5 slice-aggregate-reduce-network-6 slice-aggregate-reduce-network-7 slice-aggregate-reduce-network-8 slice-aggregate-reduce-network-9 reduce-network-requires enum-told enum-told-2 plant-lone-requires enum-known-answer sub-plant cast-plant plant-requires returns returns-2 returns-3)

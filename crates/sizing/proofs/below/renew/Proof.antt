@@ -10,17 +10,8 @@ head-below-requires c κs = search needs
 write-head-requires : tie.Need-write-head-requires
 write-head-requires c κs = c .before .before .before .before .before .before .before .before .before .before .before .before .before .before .before .before .before .pre .room
 
-same-length : tie.Need-same-length
-same-length c = search needs
-
-same-length-2 : tie.Need-same-length-2
-same-length-2 c = search needs
-
-same-length-3 : tie.Need-same-length-3
-same-length-3 c = search needs
-
 returns : tie.Need-returns
-returns c = renewed (c .before .before .before .before .before .before .before .before .before .before .before .before .before .before .before .before .before .before .before .before .before .before .before .before .pre) (c .before .before .before .before .before .before .write-head .ensures) (c .before .before .before .before .before .before .before .before .before .before .head-below .ensures)
+returns c = renewed (c .before .before .before .before .before .before .before .before .before .before .before .before .before .before .before .before .before .before .pre) (c .write-head .ensures) (c .before .before .before .before .head-below .ensures)
 
 pub renew-spec : {M : Type 1} → statement M
-renew-spec = tie.close (tie.spec head-below-requires write-head-requires same-length same-length-2 same-length-3 returns)
+renew-spec = tie.close (tie.spec head-below-requires write-head-requires returns)

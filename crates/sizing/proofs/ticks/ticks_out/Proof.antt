@@ -10,79 +10,61 @@ use Rattle.sizing.proofs.ticks.ticks_out.Statement.{statement}
 use Rattle.sizing.proofs.ticks.ticks_out.Tie as tie
 
 abbrev Inv-loop : tie.InvT-loop
-Inv-loop i ticks n kinds lefts gates rights parents counts sws drops inputs x₀ gw₀ gg₀ gr₀ ws₀ gs₀ rs₀ left₀ run₀ x gw gg gr ws gs rs left run = (length x ≡ length x₀) × (length gw ≡ length gw₀) × (length gg ≡ length gg₀) × (length gr ≡ length gr₀) × (length ws ≡ length ws₀) × (length gs ≡ length gs₀) × (length rs ≡ length rs₀) × Underway (plan n kinds lefts gates rights parents (heads-in n counts sws drops inputs)) (state x₀ gw₀ gg₀ gr₀ ws₀ gs₀ rs₀) (state x gw gg gr ws gs rs) i ticks left × (run ≡ run-of left (getD gs i 0) (getD ws i 0))
+Inv-loop i ticks n kinds lefts gates rights parents counts sws drops inputs x₀ gw₀ gg₀ gr₀ ws₀ gs₀ rs₀ left₀ run₀ x gw gg gr ws gs rs left run = (length x ≡ length x₀) × Underway (plan n kinds lefts gates rights parents (heads-in n counts sws drops inputs)) (state x₀ gw₀ gg₀ gr₀ ws₀ gs₀ rs₀) (state x gw gg gr ws gs rs) i ticks left × (run ≡ run-of left (getD gs i 0) (getD ws i 0))
 
 abbrev μ-loop : tie.MeasureT-loop
 μ-loop i ticks n kinds lefts gates rights parents counts sws drops inputs x₀ gw₀ gg₀ gr₀ ws₀ gs₀ rs₀ left₀ run₀ x gw gg gr ws gs rs left run = left
 
 mul-next-run : tie.Need-mul-next-run Inv-loop μ-loop
-mul-next-run c = omega (arith, c .before .before .before .before .before .before .before .before .before .before .before .before .before .before .before .before .pre .0 .node, c .before .before .before .before .before .before .before .before .before .before .before .before .before .before .before .before .good .1 .1 .1 .0)
+mul-next-run c = omega (arith, c .before .before .pre .0 .node, c .before .before .pre .0 .sound .shaped .few-nodes)
 
-slice-read-next-run : tie.Need-slice-read-next-run Inv-loop μ-loop
-slice-read-next-run c = c .before .before .before .before .before .before .before .before .before .before .before .before .before .before .before .before .before .pre .0 .lent .room (c .before .before .before .before .before .before .before .before .before .before .before .before .before .before .before .before .before .args .i) (c .before .before .before .before .before .before .before .before .before .before .before .before .before .before .before .before .before .pre .0 .node) .in-gains
+element-copy-out-next-run : tie.Need-element-copy-out-next-run Inv-loop μ-loop
+element-copy-out-next-run c = omega (arith, c .before .before .pre .0 .node, c .before .before .pre .0 .sound .shaped .few-nodes)
 
 mul-next-run-2 : tie.Need-mul-next-run-2 Inv-loop μ-loop
-mul-next-run-2 c = omega (arith, c .before .before .before .before .before .before .before .before .before .before .before .before .before .before .before .before .before .pre .0 .node, c .before .before .before .before .before .before .before .before .before .before .before .before .before .before .before .before .before .good .1 .1 .1 .0)
+mul-next-run-2 c = omega (arith, c .before .before .before .pre .0 .node, c .before .before .before .pre .0 .sound .shaped .few-nodes)
 
-slice-read-next-run-2 : tie.Need-slice-read-next-run-2 Inv-loop μ-loop
-slice-read-next-run-2 c = c .before .before .before .before .before .before .before .before .before .before .before .before .before .before .before .before .before .before .pre .0 .lent .room (c .before .before .before .before .before .before .before .before .before .before .before .before .before .before .before .before .before .before .args .i) (c .before .before .before .before .before .before .before .before .before .before .before .before .before .before .before .before .before .before .pre .0 .node) .in-widths
+element-copy-out-next-run-2 : tie.Need-element-copy-out-next-run-2 Inv-loop μ-loop
+element-copy-out-next-run-2 c = omega (arith, c .before .before .before .pre .0 .node, c .before .before .before .pre .0 .sound .shaped .few-nodes)
 
 next-run-requires : tie.Need-next-run-requires Inv-loop μ-loop
 next-run-requires c κs = search needs
 
 loop-holds : tie.Need-loop-holds Inv-loop μ-loop
-loop-holds c = (refl, refl, refl, refl, refl, refl, refl, starts (c .before .before .before .before .before .before .before .before .before .before .before .before .before .before .before .before .before .before .before .pre .0) _, c .next-run .ensures)
+loop-holds c = (refl, starts (c .before .before .before .before .before .pre .0) _, c .next-run .ensures)
 
 series-give-out-requires : tie.Need-series-give-out-requires Inv-loop μ-loop
-series-give-out-requires c κs = (c .before .before .before .before .before .before .before .before .loop .inv .7 .ready, (c .before .before .before .before .before .before .before .before .before .before .before .before .before .before .before .before .before .before .before .before .before .before .before .before .before .before .before .before .pre .1 .0, run-fits (c .before .before .before .before .before .before .before .before .loop .inv .7) (c .before .before .before .before .before .before .before .before .loop .inv .8) (c .before .before .before .before .before .before .before .loop-test .taken)))
+series-give-out-requires c κs = (c .before .before .before .before .before .before .before .before .loop .inv .1 .ready, (c .before .before .before .before .before .before .before .before .before .before .before .before .before .before .pre .1 .0, run-fits (c .before .before .before .before .before .before .before .before .loop .inv .1) (c .before .before .before .before .before .before .before .before .loop .inv .2) (c .before .before .before .before .before .before .before .loop-test .taken)))
 
 sub-left : tie.Need-sub-left Inv-loop μ-loop
-sub-left c = run-left (c .before .before .before .before .before .before .before .before .before .before .before .before .before .before .before .before .before .before .before .before .before .before .before .loop .inv .7) (c .before .before .before .before .before .before .before .before .before .before .before .before .before .before .before .before .before .before .before .before .before .before .before .loop .inv .8) (c .before .before .before .before .before .before .before .before .before .before .before .before .before .before .before .before .before .before .before .before .before .before .loop-test .taken)
+sub-left c = run-left (c .before .before .before .before .before .before .before .before .before .before .before .loop .inv .1) (c .before .before .before .before .before .before .before .before .before .before .before .loop .inv .2) (c .before .before .before .before .before .before .before .before .before .before .loop-test .taken)
 
 mul-next-run-3 : tie.Need-mul-next-run-3 Inv-loop μ-loop
-mul-next-run-3 c = omega (arith, c .before .before .before .before .before .before .before .before .before .before .before .before .before .before .before .before .before .before .before .before .before .before .before .before .before .before .before .before .before .before .before .before .before .before .before .before .before .before .before .before .before .before .before .pre .0 .node, c .before .before .before .before .before .before .before .before .before .before .before .before .before .before .before .before .before .before .before .before .before .before .before .before .before .before .before .before .before .before .before .before .before .before .before .before .before .before .before .before .before .before .before .good .1 .1 .1 .0)
+mul-next-run-3 c = omega (arith, c .before .before .before .before .before .before .before .before .before .before .before .before .before .before .before .before .before .pre .0 .node, c .before .before .before .before .before .before .before .before .before .before .before .before .before .before .before .before .before .pre .0 .sound .shaped .few-nodes)
 
-slice-read-next-run-3 : tie.Need-slice-read-next-run-3 Inv-loop μ-loop
-slice-read-next-run-3 c = c .before .before .before .before .before .before .before .before .before .before .before .before .before .before .before .series-give-out .ensures .lent .room (c .before .before .before .before .before .before .before .before .before .before .before .before .before .before .before .before .before .before .before .before .before .before .before .before .before .before .before .before .before .before .before .before .before .before .before .before .before .before .before .before .before .before .before .before .args .i) (c .before .before .before .before .before .before .before .before .before .before .before .before .before .before .before .before .before .before .before .before .before .before .before .before .before .before .before .before .before .before .before .before .before .before .before .before .before .before .before .before .before .before .before .before .pre .0 .node) .in-gains
+element-copy-out-next-run-3 : tie.Need-element-copy-out-next-run-3 Inv-loop μ-loop
+element-copy-out-next-run-3 c = omega (arith, c .before .before .before .before .before .before .before .before .before .before .before .before .before .before .before .before .before .pre .0 .node, c .before .before .before .before .before .before .before .before .before .before .before .before .before .before .before .before .before .pre .0 .sound .shaped .few-nodes)
 
 mul-next-run-4 : tie.Need-mul-next-run-4 Inv-loop μ-loop
-mul-next-run-4 c = omega (arith, c .before .before .before .before .before .before .before .before .before .before .before .before .before .before .before .before .before .before .before .before .before .before .before .before .before .before .before .before .before .before .before .before .before .before .before .before .before .before .before .before .before .before .before .before .pre .0 .node, c .before .before .before .before .before .before .before .before .before .before .before .before .before .before .before .before .before .before .before .before .before .before .before .before .before .before .before .before .before .before .before .before .before .before .before .before .before .before .before .before .before .before .before .before .good .1 .1 .1 .0)
+mul-next-run-4 c = omega (arith, c .before .before .before .before .before .before .before .before .before .before .before .before .before .before .before .before .before .before .pre .0 .node, c .before .before .before .before .before .before .before .before .before .before .before .before .before .before .before .before .before .before .pre .0 .sound .shaped .few-nodes)
 
-slice-read-next-run-4 : tie.Need-slice-read-next-run-4 Inv-loop μ-loop
-slice-read-next-run-4 c = c .before .before .before .before .before .before .before .before .before .before .before .before .before .before .before .before .series-give-out .ensures .lent .room (c .before .before .before .before .before .before .before .before .before .before .before .before .before .before .before .before .before .before .before .before .before .before .before .before .before .before .before .before .before .before .before .before .before .before .before .before .before .before .before .before .before .before .before .before .before .args .i) (c .before .before .before .before .before .before .before .before .before .before .before .before .before .before .before .before .before .before .before .before .before .before .before .before .before .before .before .before .before .before .before .before .before .before .before .before .before .before .before .before .before .before .before .before .before .pre .0 .node) .in-widths
+element-copy-out-next-run-4 : tie.Need-element-copy-out-next-run-4 Inv-loop μ-loop
+element-copy-out-next-run-4 c = omega (arith, c .before .before .before .before .before .before .before .before .before .before .before .before .before .before .before .before .before .before .pre .0 .node, c .before .before .before .before .before .before .before .before .before .before .before .before .before .before .before .before .before .before .pre .0 .sound .shaped .few-nodes)
 
 next-run-requires-2 : tie.Need-next-run-requires-2 Inv-loop μ-loop
 next-run-requires-2 c κs = search needs
 
 loop-less : tie.Need-loop-less Inv-loop μ-loop
-loop-less c = omega (arith, run-left (c .before .before .before .before .before .before .before .before .before .before .before .before .before .before .before .before .before .before .before .before .before .before .before .before .before .before .loop .inv .7) (c .before .before .before .before .before .before .before .before .before .before .before .before .before .before .before .before .before .before .before .before .before .before .before .before .before .before .loop .inv .8) (c .before .before .before .before .before .before .before .before .before .before .before .before .before .before .before .before .before .before .before .before .before .before .before .before .before .loop-test .taken), (c .before .before .before .before .before .before .before .before .before .before .before .before .before .before .before .before .before .before .before .before .before .before .before .before .before .loop-test .taken))
+loop-less c = omega (arith, run-left (c .before .before .before .before .before .before .before .before .before .before .before .before .before .before .loop .inv .1) (c .before .before .before .before .before .before .before .before .before .before .before .before .before .before .loop .inv .2) (c .before .before .before .before .before .before .before .before .before .before .before .before .before .loop-test .taken), (c .before .before .before .before .before .before .before .before .before .before .before .before .before .loop-test .taken))
 
 loop-again : tie.Need-loop-again Inv-loop μ-loop
-loop-again c = (c .before .before .before .before .before .before .before .before .before .before .before .before .before .before .before .before .before .series-give-out .kept .1 .1 .1 .1 .1 .1 .1 .1 .1 .1 .1 .1 .0 ∙ c .before .before .before .before .before .before .before .before .before .before .before .before .before .before .before .before .before .before .before .before .before .before .before .before .before .before .loop .inv .0, c .before .before .before .before .before .before .before .before .before .before .before .before .before .before .before .before .before .series-give-out .kept .1 .1 .1 .1 .1 .1 .1 .1 .1 .1 .1 .1 .1 .0 ∙ c .before .before .before .before .before .before .before .before .before .before .before .before .before .before .before .before .before .before .before .before .before .before .before .before .before .before .loop .inv .1, c .before .before .before .before .before .before .before .before .before .before .before .before .before .before .before .before .before .series-give-out .kept .1 .1 .1 .1 .1 .1 .1 .1 .1 .1 .1 .1 .1 .1 .0 ∙ c .before .before .before .before .before .before .before .before .before .before .before .before .before .before .before .before .before .before .before .before .before .before .before .before .before .before .loop .inv .2, c .before .before .before .before .before .before .before .before .before .before .before .before .before .before .before .before .before .series-give-out .kept .1 .1 .1 .1 .1 .1 .1 .1 .1 .1 .1 .1 .1 .1 .1 .0 ∙ c .before .before .before .before .before .before .before .before .before .before .before .before .before .before .before .before .before .before .before .before .before .before .before .before .before .before .loop .inv .3, c .before .before .before .before .before .before .before .before .before .before .before .before .before .before .before .before .before .series-give-out .kept .1 .1 .1 .1 .1 .1 .1 .1 .1 .1 .1 .1 .1 .1 .1 .1 .0 ∙ c .before .before .before .before .before .before .before .before .before .before .before .before .before .before .before .before .before .before .before .before .before .before .before .before .before .before .loop .inv .4, c .before .before .before .before .before .before .before .before .before .before .before .before .before .before .before .before .before .series-give-out .kept .1 .1 .1 .1 .1 .1 .1 .1 .1 .1 .1 .1 .1 .1 .1 .1 .1 .0 ∙ c .before .before .before .before .before .before .before .before .before .before .before .before .before .before .before .before .before .before .before .before .before .before .before .before .before .before .loop .inv .5, c .before .before .before .before .before .before .before .before .before .before .before .before .before .before .before .before .before .series-give-out .kept .1 .1 .1 .1 .1 .1 .1 .1 .1 .1 .1 .1 .1 .1 .1 .1 .1 .1 .0 ∙ c .before .before .before .before .before .before .before .before .before .before .before .before .before .before .before .before .before .before .before .before .before .before .before .before .before .before .loop .inv .6, run-done (c .before .before .before .before .before .before .before .before .before .before .before .before .before .before .before .before .before .before .before .before .before .before .before .before .before .before .loop .inv .7) (c .before .before .before .before .before .before .before .before .before .before .before .before .before .before .before .before .before .before .before .before .before .before .before .before .before .before .loop .inv .8) (c .before .before .before .before .before .before .before .before .before .before .before .before .before .before .before .before .before .before .before .before .before .before .before .before .before .before .before .before .before .before .before .before .before .before .before .before .before .before .before .before .before .before .before .before .before .before .pre .1 .1) (c .before .before .before .before .before .before .before .before .before .before .before .before .before .before .before .before .before .before .before .before .before .before .before .before .before .loop-test .taken) (c .before .before .before .before .before .before .before .before .before .before .before .before .before .before .before .before .before .series-give-out .ensures), c .next-run2 .ensures)
+loop-again c = (c .before .before .before .before .before .series-give-out .kept .1 .1 .1 .1 .1 .1 .1 .1 .1 .1 .1 .1 .0 ∙ c .before .before .before .before .before .before .before .before .before .before .before .before .before .before .loop .inv .0, run-done (c .before .before .before .before .before .before .before .before .before .before .before .before .before .before .loop .inv .1) (c .before .before .before .before .before .before .before .before .before .before .before .before .before .before .loop .inv .2) (c .before .before .before .before .before .before .before .before .before .before .before .before .before .before .before .before .before .before .before .before .pre .1 .1) (c .before .before .before .before .before .before .before .before .before .before .before .before .before .loop-test .taken) (c .before .before .before .before .before .series-give-out .ensures), c .next-run2 .ensures)
 
 same-length : tie.Need-same-length Inv-loop μ-loop
 same-length c = c .before .loop .inv .0
 
-same-length-2 : tie.Need-same-length-2 Inv-loop μ-loop
-same-length-2 c = c .before .loop .inv .1
-
-same-length-3 : tie.Need-same-length-3 Inv-loop μ-loop
-same-length-3 c = c .before .loop .inv .2
-
-same-length-4 : tie.Need-same-length-4 Inv-loop μ-loop
-same-length-4 c = c .before .loop .inv .3
-
-same-length-5 : tie.Need-same-length-5 Inv-loop μ-loop
-same-length-5 c = c .before .loop .inv .4
-
-same-length-6 : tie.Need-same-length-6 Inv-loop μ-loop
-same-length-6 c = c .before .loop .inv .5
-
-same-length-7 : tie.Need-same-length-7 Inv-loop μ-loop
-same-length-7 c = c .before .loop .inv .6
-
 returns : tie.Need-returns Inv-loop μ-loop
-returns c = all-out (c .before .loop .inv .7) (c .before .loop .inv .8) (c .loop-test .left)
+returns c = all-out (c .before .loop .inv .1) (c .before .loop .inv .2) (c .loop-test .left)
 
 pub ticks-out-spec : {M : Type 1} → statement M
-ticks-out-spec = tie.close (tie.spec Inv-loop μ-loop mul-next-run slice-read-next-run mul-next-run-2 slice-read-next-run-2 next-run-requires loop-holds series-give-out-requires sub-left mul-next-run-3 slice-read-next-run-3 mul-next-run-4 slice-read-next-run-4 next-run-requires-2 loop-less loop-again same-length same-length-2 same-length-3 same-length-4 same-length-5 same-length-6 same-length-7 returns)
+ticks-out-spec = tie.close (tie.spec Inv-loop μ-loop mul-next-run element-copy-out-next-run mul-next-run-2 element-copy-out-next-run-2 next-run-requires loop-holds series-give-out-requires sub-left mul-next-run-3 element-copy-out-next-run-3 mul-next-run-4 element-copy-out-next-run-4 next-run-requires-2 loop-less loop-again same-length returns)
