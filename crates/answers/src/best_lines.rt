@@ -2,9 +2,11 @@
 use crate::tree::tree_increases;
 use gains::inputs::input_activities;
 use model::BestAnswer;
-use model::GateNumbers;
 use model::Refusal;
-use model::StepNumbers;
+use model::limits::GateNumbers;
+use model::limits::MAX_GATES;
+use model::limits::StepNumbers;
+use planting::MAX_NODES;
 use shaping::plant::plant_block;
 use timing::start::start_time;
 ghost use mathlib.Core.List.{List};
@@ -38,11 +40,11 @@ pub fn best_held(
     requires { ⌜ n ≤ length (now increases) ⌝ }
     ensures { λ r. ⌜ ((file : List ℕ) → HeldFile file n m arrival deadline activity (gate-arrays (now (delays .entry)) (now (activities .entry)) (now (counts .entry)) (now («step_widths» .entry)) (now (drops .entry))) (wire-arrays (now (sources .entry)) (now (targets .entry)) (now («wire_delays» .entry))) (now (order .entry)) → BestLines (block-held n m arrival deadline activity (gate-arrays (now (delays .entry)) (now (activities .entry)) (now (counts .entry)) (now («step_widths» .entry)) (now (drops .entry))) (wire-arrays (now (sources .entry)) (now (targets .entry)) (now («wire_delays» .entry)))) (now (increases .entry)) (record { answer = best-answer r; memory = now (increases .exit) })) ⌝ }
 {
-    let mut kinds = [0u32; 515];
-    let mut lefts = [0u32; 515];
-    let mut gates = [0u32; 515];
-    let mut rights = [0u32; 515];
-    let mut parents = [0u32; 515];
+    let mut kinds = [0u32; MAX_NODES];
+    let mut lefts = [0u32; MAX_NODES];
+    let mut gates = [0u32; MAX_NODES];
+    let mut rights = [0u32; MAX_NODES];
+    let mut parents = [0u32; MAX_NODES];
     let nodes = plant_block(
         n,
         m,
@@ -62,7 +64,7 @@ pub fn best_held(
     if deadline < arrival + start {
         return BestAnswer::Refused(Refusal::Late);
     }
-    let mut inputs = [0u32; 64];
+    let mut inputs = [0u32; MAX_GATES];
     input_activities(n, m, sources, targets, activities, 0, activity, &mut inputs);
     let saving = tree_increases(
         deadline - (arrival + start),

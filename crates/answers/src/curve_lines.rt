@@ -2,9 +2,11 @@
 use crate::tree::tree_curve;
 use gains::inputs::input_activities;
 use model::CurveAnswer;
-use model::GateNumbers;
 use model::Refusal;
-use model::StepNumbers;
+use model::limits::GateNumbers;
+use model::limits::MAX_GATES;
+use model::limits::StepNumbers;
+use planting::MAX_NODES;
 use shaping::plant::plant_block;
 use timing::start::start_time;
 ghost use mathlib.Core.List.{List};
@@ -39,11 +41,11 @@ pub fn curve_held(
     ensures { λ r. ⌜ ((file : List ℕ) (arrival deadline : ℕ) → HeldFile file n m arrival deadline activity (gate-arrays (now (delays .entry)) (now (activities .entry)) (now (counts .entry)) (now («step_widths» .entry)) (now (drops .entry))) (wire-arrays (now (sources .entry)) (now (targets .entry)) (now («wire_delays» .entry))) (now (order .entry)) → CurveLines (block-held n m arrival deadline activity (gate-arrays (now (delays .entry)) (now (activities .entry)) (now (counts .entry)) (now («step_widths» .entry)) (now (drops .entry))) (wire-arrays (now (sources .entry)) (now (targets .entry)) (now («wire_delays» .entry)))) (record { for-widths = now (widths .entry); for-gains = now (gains .entry) }) (record { answer = curve-answer r; memory = record { for-widths = now (widths .exit); for-gains = now (gains .exit) } })) ⌝ }
     ensures { λ r. ⌜ CurveBounds r (now (gains .exit)) ⌝ }
 {
-    let mut kinds = [0u32; 515];
-    let mut lefts = [0u32; 515];
-    let mut gates = [0u32; 515];
-    let mut rights = [0u32; 515];
-    let mut parents = [0u32; 515];
+    let mut kinds = [0u32; MAX_NODES];
+    let mut lefts = [0u32; MAX_NODES];
+    let mut gates = [0u32; MAX_NODES];
+    let mut rights = [0u32; MAX_NODES];
+    let mut parents = [0u32; MAX_NODES];
     let nodes = plant_block(
         n,
         m,
@@ -60,9 +62,9 @@ pub fn curve_held(
         return CurveAnswer::Refused(Refusal::NotSeriesParallel);
     }
     let start = start_time(n, m, order, sources, targets, wire_delays, delays);
-    let mut inputs = [0u32; 64];
+    let mut inputs = [0u32; MAX_GATES];
     input_activities(n, m, sources, targets, activities, 0, activity, &mut inputs);
-    let mut increases = [0u32; 64];
+    let mut increases = [0u32; MAX_GATES];
     let curve = tree_curve(
         n as u32,
         &kinds[..nodes],

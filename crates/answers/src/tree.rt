@@ -1,9 +1,12 @@
 // The curve and the best increases of a block whose tree stands in node arrays.
 use curve::count::count_off;
 use gains::saving::list_saving;
-use model::GateNumbers;
-use model::StepNumbers;
+use model::limits::GateNumbers;
+use model::limits::MAX_GATES;
+use model::limits::MAX_PAIRS;
+use model::limits::StepNumbers;
 use network::marking::at;
+use planting::MAX_NODES;
 use planting::NodeNumbers;
 use sizing::curve::spend_ticks;
 use sizing::start::start;
@@ -60,13 +63,13 @@ pub fn tree_curve(
     requires { ⌜ (max-pairs ≤ length (now «pair_widths»)) × (max-pairs ≤ length (now «pair_gains»)) ⌝ }
     ensures { λ r. ⌜ ((B : Block) (held : TreeHeld B n (tree-arrays (now (kinds .entry)) (now (lefts .entry)) (now (gates .entry)) (now (rights .entry)) (now (parents .entry)) (now (counts .entry)) (now («step_widths» .entry)) (now (drops .entry)) (now (inputs .entry)) (now (delays .entry)))) → CurveFound B (held .fits) (now («pair_widths» .entry)) (now («pair_gains» .entry)) (now («pair_widths» .exit)) (now («pair_gains» .exit)) r) ⌝ }
 {
-    let mut lengths = [0u32; 515];
-    let mut gate_widths = [0u32; 64];
-    let mut gate_gains = [0u64; 64];
-    let mut gate_ranks = [0u32; 64];
-    let mut widths = [0u32; 515];
-    let mut gains = [0u64; 515];
-    let mut ranks = [0u32; 515];
+    let mut lengths = [0u32; MAX_NODES];
+    let mut gate_widths = [0u32; MAX_GATES];
+    let mut gate_gains = [0u64; MAX_GATES];
+    let mut gate_ranks = [0u32; MAX_GATES];
+    let mut widths = [0u32; MAX_NODES];
+    let mut gains = [0u64; MAX_NODES];
+    let mut ranks = [0u32; MAX_NODES];
     start(
         n,
         kinds,
@@ -137,15 +140,15 @@ pub fn tree_increases(
     requires { ⌜ (length (now increases) ≡ n) × (ticks ≤ max-time) ⌝ }
     ensures { λ r. ⌜ ((B : Block) (held : TreeHeld B n (tree-arrays (now (kinds .entry)) (now (lefts .entry)) (now (gates .entry)) (now (rights .entry)) (now (parents .entry)) (now (counts .entry)) (now («step_widths» .entry)) (now (drops .entry)) (now (inputs .entry)) (now (delays .entry)))) → IncreasesFound B (held .fits) ticks (now (increases .exit)) r) ⌝ }
 {
-    let mut lengths = [0u32; 515];
-    let mut gate_widths = [0u32; 64];
-    let mut gate_gains = [0u64; 64];
-    let mut gate_ranks = [0u32; 64];
-    let mut widths = [0u32; 515];
-    let mut gains = [0u64; 515];
-    let mut ranks = [0u32; 515];
-    let mut pair_widths = [0u32; 512];
-    let mut pair_gains = [0u32; 512];
+    let mut lengths = [0u32; MAX_NODES];
+    let mut gate_widths = [0u32; MAX_GATES];
+    let mut gate_gains = [0u64; MAX_GATES];
+    let mut gate_ranks = [0u32; MAX_GATES];
+    let mut widths = [0u32; MAX_NODES];
+    let mut gains = [0u64; MAX_NODES];
+    let mut ranks = [0u32; MAX_NODES];
+    let mut pair_widths = [0u32; MAX_PAIRS];
+    let mut pair_gains = [0u32; MAX_PAIRS];
     start(
         n,
         kinds,

@@ -1,4 +1,4 @@
-// Tags, lengths and ranges of the fields of edition 1. They stand here and nowhere else in the code.
+// Tags, lengths and ranges of the fields of edition 1. They stand here and nowhere else in the code, but for the numbers of gates, steps and wires (`model::limits`).
 // These functions are public for `fault`, `store` and `read` alone.
 ghost use mathlib.Core.Path.{_≡_};
 ghost use mathlib.Core.Bool.{true};
@@ -8,11 +8,13 @@ ghost use lib.ListN.{length};
 ghost use Rattle.model.specs.File.{block, gate, wire, tag-of, length-fits, says, in-range, step-in-range, every, steps-in, falls};
 ghost use Rattle.blockfile.specs.Kinds.{kind, step-of};
 use crate::field::number_at;
+use model::limits::MAX_GATES;
+use model::limits::MAX_STEPS;
 
 // The block: edition, gates and bytes.
 const EDITION: u8 = 1;
 
-pub const MAX_GATES: u8 = 64;
+const GATES: u8 = MAX_GATES as u8;
 
 const BLOCK_BYTES: usize = 8;
 // A probability is in 256ths.
@@ -24,14 +26,10 @@ const MAX_WIDTH: u32 = 4095;
 
 const MAX_DROP: u32 = 1000;
 
-pub const MAX_STEPS: usize = 8;
-
 pub const GATE_BYTES: usize = 4;
 
 pub const STEP_BYTES: usize = 4;
-// The wires, and the bytes of each.
-pub const MAX_WIRES: usize = 256;
-
+// The bytes of a wire.
 const WIRE_BYTES: usize = 2;
 
 // What is due at a place of the file.
@@ -87,7 +85,7 @@ pub fn block_in_range(body: &[u8]) -> bool
     if body[1] < 1 {
         return false;
     }
-    if MAX_GATES < body[1] {
+    if GATES < body[1] {
         return false;
     }
     number_at(body, 6) <= MAX_PROBABILITY

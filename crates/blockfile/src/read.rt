@@ -19,13 +19,13 @@ use crate::field::HEADER_BYTES;
 use crate::field::field_body;
 use crate::field::number_at;
 use crate::field::wide;
-use crate::limits::MAX_WIRES;
 use crate::reader::due_field;
 use crate::seen::clear;
 use crate::seen::mark;
 use crate::store::store_gate;
 use model::Refusal;
 use model::activity::activity_of;
+use model::limits::MAX_WIRES;
 
 // A field, or several, were read up to an offset, or refused.
 pub enum FieldRead {

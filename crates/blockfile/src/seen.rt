@@ -4,21 +4,18 @@ ghost use mathlib.Core.Path.{_≡_};
 ghost use mathlib.Core.List.{List, [], _∷_};
 ghost use Prim.Native.Nat.{_<_, _≤_};
 ghost use lib.ListN.{length, getD};
+ghost use Rattle.model.specs.Limits.{max-gates};
 ghost use Rattle.model.specs.Block.{Wire};
 ghost use Rattle.model.specs.File.{wire, says, fresh};
 ghost use Rattle.blockfile.specs.Seen.{pairs, pair-place, between, Marks};
-use crate::limits::MAX_GATES;
-
-// Gates of a block, at most, and pairs of them.
-const GATES: usize = MAX_GATES as usize;
-
-const PAIRS: usize = GATES * GATES;
+use model::limits::GATES_SQUARED;
+use model::limits::MAX_GATES;
 
 // The place of a pair of gates.
 pub fn pair_place(source: u8, target: u8) -> usize
     ensures { λ r. ⌜ r ≡ pair-place source target ⌝ }
 {
-    GATES * (source as usize) + target as usize
+    MAX_GATES * (source as usize) + target as usize
 }
 
 // Clears the table: no wire stood.
@@ -27,7 +24,7 @@ pub fn clear(seen: &mut [u8])
     ensures { λ _. ⌜ Marks (now (seen .exit)) [] ⌝ }
 {
     let mut i = 0;
-    while i < PAIRS {
+    while i < GATES_SQUARED {
         seen[i] = 0;
         i += 1;
     }
@@ -36,7 +33,7 @@ pub fn clear(seen: &mut [u8])
 // Notes a wire in the table.
 pub fn mark(seen: &mut [u8], source: u8, target: u8)
     requires { ⌜ pairs ≤ length (now seen) ⌝ }
-    requires { ⌜ (source < 64) × (target < 64) ⌝ }
+    requires { ⌜ (source < max-gates) × (target < max-gates) ⌝ }
     ensures { λ _. ⌜ ((ws : List Wire) → Marks (now (seen .entry)) ws → Marks (now (seen .exit)) (between source target ∷ ws)) ⌝ }
 {
     let place = pair_place(source, target);
@@ -46,7 +43,7 @@ pub fn mark(seen: &mut [u8], source: u8, target: u8)
 // Whether a wire's body joins two gates that none of the wires in the table joined.
 pub fn is_fresh(body: &[u8], seen: &[u8]) -> bool
     requires { ⌜ length (now body) ≡ 2 ⌝ }
-    requires { ⌜ (getD (now body) 0 0 < 64) × (getD (now body) 1 0 < 64) ⌝ }
+    requires { ⌜ (getD (now body) 0 0 < max-gates) × (getD (now body) 1 0 < max-gates) ⌝ }
     requires { ⌜ pairs ≤ length (now seen) ⌝ }
     ensures { λ r. ⌜ ((ws : List Wire) → Marks (now (seen .entry)) ws → r ≡ fresh ws (says (wire 0 []) (now (body .entry)))) ⌝ }
 {

@@ -9,9 +9,9 @@ ghost use Rattle.model.specs.File as File;
 ghost use Rattle.blockfile.specs.Held.{GateRoom, StepsStored, GateStored, gate-arrays};
 use crate::field::number_at;
 use crate::limits::GATE_BYTES;
-use crate::limits::MAX_STEPS;
 use crate::limits::STEP_BYTES;
 use model::activity::activity_of;
+use model::limits::MAX_STEPS;
 
 // Stores the steps of a gate, and answers how many they are.
 pub fn store_steps(steps: &[u8], gate: usize, step_widths: &mut [u32], drops: &mut [u32]) -> u32

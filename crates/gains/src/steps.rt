@@ -1,4 +1,5 @@
 // The steps of a gate: where they stand, the sum of their widths, and increases that exceed it.
+use model::limits::MAX_STEPS;
 use network::marking::at;
 ghost use mathlib.Core.Path.{_≡_};
 ghost use mathlib.Core.List.{List};
@@ -14,7 +15,7 @@ pub fn place_of(g: usize, j: usize) -> usize
     requires { ⌜ (g < max-gates) × (j < max-steps) ⌝ }
     ensures { λ r. ⌜ r ≡ step-place g j ⌝ }
 {
-    g * 8 + j
+    g * MAX_STEPS + j
 }
 
 // The sum of the widths of gate g.

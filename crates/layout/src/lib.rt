@@ -6,9 +6,12 @@ use answers::best_lines::best_held;
 use loading::Loaded;
 use loading::load;
 use model::BestAnswer;
-use model::GateNumbers;
 use model::Refusal;
-use model::StepNumbers;
+use model::limits::GateNumbers;
+use model::limits::MAX_GATES;
+use model::limits::MAX_PAIRS;
+use model::limits::MAX_WIRES;
+use model::limits::StepNumbers;
 ghost use mathlib.Core.List.{List};
 ghost use Prim.Native.Nat.{ℕ, _*_, _≤_};
 ghost use lib.ListN.{length};
@@ -43,7 +46,7 @@ fn lay_best(
     ensures { λ r. ⌜ ((file : List ℕ) → HeldFile file n m arrival deadline activity (gate-arrays (now (delays .entry)) (now (activities .entry)) (now (counts .entry)) (now («step_widths» .entry)) (now (drops .entry))) (wire-arrays (now (sources .entry)) (now (targets .entry)) (now («wire_delays» .entry))) (now (order .entry)) → AnswersLayout file (now (increases .entry)) (leaves r (now (increases .exit)))) ⌝ }
     ensures { λ r. ⌜ NoSavingRefused (r .number) (r .saving) ⌝ }
 {
-    let mut list = [0u32; 64];
+    let mut list = [0u32; MAX_GATES];
     let best = best_held(
         n,
         m,
@@ -80,15 +83,15 @@ pub extern "C" fn honduvi_best_increases(file: &[u8], increases: &mut [u8]) -> L
     ensures { λ r. ⌜ AnswersLayout (now (file .entry)) (now (increases .entry)) (record { answer = layout-answer (r .number) (r .place) (r .saving); memory = now (increases .exit) }) ⌝ }
     ensures { λ r. ⌜ NoSavingRefused (r .number) (r .saving) ⌝ }
 {
-    let mut delays = [0u32; 64];
-    let mut activities = [0u32; 64];
-    let mut counts = [0u32; 64];
-    let mut step_widths = [0u32; 512];
-    let mut drops = [0u32; 512];
-    let mut sources = [0u32; 256];
-    let mut targets = [0u32; 256];
-    let mut wire_delays = [0u32; 256];
-    let mut order = [0u32; 64];
+    let mut delays = [0u32; MAX_GATES];
+    let mut activities = [0u32; MAX_GATES];
+    let mut counts = [0u32; MAX_GATES];
+    let mut step_widths = [0u32; MAX_PAIRS];
+    let mut drops = [0u32; MAX_PAIRS];
+    let mut sources = [0u32; MAX_WIRES];
+    let mut targets = [0u32; MAX_WIRES];
+    let mut wire_delays = [0u32; MAX_WIRES];
+    let mut order = [0u32; MAX_GATES];
     let loaded = load(
         file,
         &mut delays,

@@ -4,6 +4,7 @@ pub mod numbers;
 use blockfile::read::BlockRead;
 use blockfile::read::read_block;
 use model::Refusal;
+use model::limits::GATES_SQUARED;
 use network::Network;
 use network::judge_network;
 ghost use mathlib.Core.Path.{_≡_};
@@ -67,7 +68,7 @@ pub fn load(
     requires { ⌜ max-gates ≤ length (now order) ⌝ }
     ensures { λ r. ⌜ Loads (now (file .entry)) r (gate-arrays (now (delays .exit)) (now (activities .exit)) (now (counts .exit)) (now («step_widths» .exit)) (now (drops .exit))) (wire-arrays (now (sources .exit)) (now (targets .exit)) (now («wire_delays» .exit))) (now (order .exit)) ⌝ }
 {
-    let mut seen = [0u8; 4096];
+    let mut seen = [0u8; GATES_SQUARED];
     let read = read_block(
         file,
         delays,

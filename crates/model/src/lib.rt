@@ -1,12 +1,7 @@
-// What every crate shares: the refusals, the answers of the calls, the activity of a net, and arrays with an entry for each gate or step of a file.
+// What every crate shares: the refusals, the answers of the calls, the activity of a net, and the limits of a file.
 // The definitions to believe stand in specs/; specs/Answer.antt sets out document 01's number and values for each case below.
 pub mod activity;
-
-// A number for each gate, of as many as a file can have.
-pub type GateNumbers = [u32; 64];
-
-// A number for each step, of eight for each gate.
-pub type StepNumbers = [u32; 512];
+pub mod limits;
 
 // Why a file or a buffer is refused. Offsets are those of a field's tag.
 pub enum Refusal {

@@ -1,6 +1,7 @@
 // Refusal 9: the lowest gate that has a wire where it must have none, or none where it must have one.
 use super::Faults;
 use super::marking::mark_keys;
+use model::limits::MAX_GATES;
 ghost use Prim.Native.Nat.{_≤_, _<_};
 ghost use lib.ListN.{length};
 ghost use Rattle.lists.specs.Search.{Says};
@@ -55,8 +56,8 @@ pub fn lowest_at_fault(
     requires { ⌜ Lent n m (now sources) (now targets) ⌝ }
     ensures { λ r. ⌜ ((B : Block) → InArrays B n m (now (sources .entry)) (now (targets .entry)) → EndsAt B first last → FaultFound B r) ⌝ }
 {
-    let mut ins = [0u8; 64];
-    let mut outs = [0u8; 64];
+    let mut ins = [0u8; MAX_GATES];
+    let mut outs = [0u8; MAX_GATES];
     mark_keys(m, targets, &mut ins);
     mark_keys(m, sources, &mut outs);
     let gate = first_faulty(n, first, last, &ins, &outs);

@@ -1,6 +1,8 @@
-// The lowest gate on a loop, by a square of marks that tells which gates reach which: the mark for gates a and b stands at a * 64 + b.
+// The lowest gate on a loop, by a square of marks that tells which gates reach which: the mark for gates a and b stands at a * MAX_GATES + b.
 // Asked only when the gates have no order.
 use super::marking::at;
+use model::limits::GATES_SQUARED;
+use model::limits::MAX_GATES;
 ghost use mathlib.Core.Path.{_≡_};
 ghost use mathlib.Core.List.{List};
 ghost use Prim.Native.Nat.{ℕ, suc, _+_, _≤_, _<_};
@@ -21,7 +23,7 @@ fn mark_pairs(m: usize, sources: &[u32], targets: &[u32], square: &mut [u8])
 {
     let mut i = 0;
     while i < m {
-        square[at(sources, i) * 64 + at(targets, i)] = 1;
+        square[at(sources, i) * MAX_GATES + at(targets, i)] = 1;
         i += 1;
     }
 }
@@ -32,10 +34,10 @@ fn visit_pair(k: usize, a: usize, b: usize, square: &mut [u8])
     requires { ⌜ square-size ≤ length (now square) ⌝ }
     ensures { λ r. ⌜ PairVisit k a b (now (square .entry)) (now (square .exit)) ⌝ }
 {
-    if square[k * 64 + b] == 0 {
+    if square[k * MAX_GATES + b] == 0 {
         return;
     }
-    square[a * 64 + b] = 1;
+    square[a * MAX_GATES + b] = 1;
 }
 
 // Marks where gate a leads through gate k, to which it leads.
@@ -58,7 +60,7 @@ fn visit_row(n: usize, k: usize, a: usize, square: &mut [u8])
     requires { ⌜ square-size ≤ length (now square) ⌝ }
     ensures { λ r. ⌜ ((start : List ℕ) → Closing start n k a 0 (now (square .entry)) → Closing start n k (a + 1) 0 (now (square .exit))) ⌝ }
 {
-    if square[a * 64 + k] == 0 {
+    if square[a * MAX_GATES + k] == 0 {
         return;
     }
     close_row(n, k, a, square);
@@ -99,7 +101,7 @@ fn visit_self(n: usize, g: usize, found: usize, square: &[u8]) -> usize
     if found < n {
         return found;
     }
-    if square[g * 64 + g] == 0 {
+    if square[g * MAX_GATES + g] == 0 {
         return found;
     }
     g
@@ -125,7 +127,7 @@ pub fn lowest_on_loop(n: usize, m: usize, sources: &[u32], targets: &[u32]) -> u
     requires { ⌜ Lent n m (now sources) (now targets) ⌝ }
     ensures { λ r. ⌜ ((B : Block) → InArrays B n m (now (sources .entry)) (now (targets .entry)) → First (OnLoop B) n r) ⌝ }
 {
-    let mut square = [0u8; 4096];
+    let mut square = [0u8; GATES_SQUARED];
     mark_pairs(m, sources, targets, &mut square);
     close_square(n, &mut square);
     first_paired(n, &square)

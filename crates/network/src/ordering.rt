@@ -1,6 +1,7 @@
 // An order of the gates along the wires, found round by round: a round places every gate all of whose predecessors were placed before it.
 // `place` holds where each gate stands in `order`, or a number not below n while it is not placed.
 use super::marking::at;
+use model::limits::MAX_GATES;
 ghost use mathlib.Core.Path.{_≡_};
 ghost use Prim.Native.Nat.{ℕ, _≤_, _<_};
 ghost use lib.ListN.{length, getD};
@@ -10,6 +11,9 @@ ghost use Rattle.network.specs.Wires.{Lent, Wired, InArrays};
 ghost use Rattle.network.specs.Marks.{Marks};
 ghost use Rattle.network.specs.Order.{Placed, Numbered, Waits, WireVisit, Visit, SameBeyond, Advanced, RoundOf};
 ghost use Rattle.network.specs.Judged.{OrderFound};
+
+// No gate has this place.
+const NO_PLACE: u32 = MAX_GATES as u32;
 
 // Marks gate `target` if gate `source` is not placed.
 fn visit_wire(n: usize, place: &[u32], source: usize, target: usize, waiting: &mut [u8])
@@ -105,7 +109,7 @@ fn place_round(
     requires { ⌜ Placed (Wired m (now sources) (now targets)) n (now place) (now order) placed ⌝ }
     ensures { λ r. ⌜ Advanced (Wired m (now (sources .entry)) (now (targets .entry))) n (now (order .entry)) placed (now (place .exit)) (now (order .exit)) r ⌝ }
 {
-    let mut waiting = [0u8; 64];
+    let mut waiting = [0u8; MAX_GATES];
     mark_waiting(n, m, sources, targets, place, &mut waiting);
     place_free(n, &waiting, place, order, placed)
 }
@@ -117,7 +121,7 @@ pub fn order_gates(n: usize, m: usize, sources: &[u32], targets: &[u32], order: 
     ensures { λ r. ⌜ ((B : Block) → InArrays B n m (now (sources .entry)) (now (targets .entry)) → OrderFound B (now (order .exit)) r) ⌝ }
     ensures { λ r. ⌜ SameBeyond n (now (order .entry)) (now (order .exit)) ⌝ }
 {
-    let mut place = [64u32; 64];
+    let mut place = [NO_PLACE; MAX_GATES];
     let mut count = 0;
     while count < n {
         let placed = place_round(n, m, sources, targets, &mut place, order, count);

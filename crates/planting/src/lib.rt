@@ -3,6 +3,7 @@ mod copy;
 mod node;
 
 use copy::copy;
+use model::limits::MAX_WIRES;
 use node::write_leaf;
 use node::write_parent;
 use node::write_root;
@@ -12,11 +13,17 @@ ghost use Rattle.parts.specs.Nodes.{tree-of};
 ghost use Rattle.planting.specs.Copy.{nodes-in, nodes-of, plot, Readable, Room, AsLong};
 ghost use Rattle.planting.specs.Planted.{Planted, whole, lone};
 
+// Nodes of the tree that a reduction leaves, at most: two for each wire.
+pub const MAX_REDUCED: usize = MAX_WIRES + MAX_WIRES;
+
+// Nodes of a planted tree, at most.
+pub const MAX_NODES: usize = MAX_REDUCED + 3;
+
 // A number for each node of the tree that a reduction leaves.
-pub type ReducedNumbers = [u32; 512];
+pub type ReducedNumbers = [u32; MAX_REDUCED];
 
 // A number for each node of a planted tree.
-pub type NodeNumbers = [u32; 515];
+pub type NodeNumbers = [u32; MAX_NODES];
 
 // Plants the tree of node i of the arrays kind, left, gate, right, between gates a and b. Answers the number of nodes; the top is the last.
 // Public for the crates above only: they have shown that node i is the root of a tree.

@@ -2,8 +2,9 @@
 use crate::refusal::print_refusal;
 use answers::best_lines::best_held;
 use model::BestAnswer;
-use model::GateNumbers;
-use model::StepNumbers;
+use model::limits::GateNumbers;
+use model::limits::MAX_GATES;
+use model::limits::StepNumbers;
 use text::lines::write_block;
 use timing::slack::write_slacks;
 use timing::start::start_time;
@@ -45,7 +46,7 @@ pub fn print_block(
 {
     let start = start_time(n, m, order, sources, targets, wire_delays, delays);
     let spare = deadline - (arrival + start);
-    let mut slacks = [0i32; 64];
+    let mut slacks = [0i32; MAX_GATES];
     write_slacks(
         n,
         m,
@@ -93,7 +94,7 @@ pub fn print_held(
     requires { ⌜ printout-room ≤ length (now out) ⌝ }
     ensures { λ r. ⌜ ((file : List ℕ) → HeldFile file n m arrival deadline activity (gate-arrays (now (delays .entry)) (now (activities .entry)) (now (counts .entry)) (now («step_widths» .entry)) (now (drops .entry))) (wire-arrays (now (sources .entry)) (now (targets .entry)) (now («wire_delays» .entry))) (now (order .entry)) → Printed file (now (out .entry)) (now (out .exit)) r) ⌝ }
 {
-    let mut increases = [0u32; 64];
+    let mut increases = [0u32; MAX_GATES];
     let best = best_held(
         n,
         m,

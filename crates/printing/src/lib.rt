@@ -6,6 +6,9 @@ use crate::held::print_held;
 use crate::refusal::print_refusal;
 use loading::Loaded;
 use loading::load;
+use model::limits::MAX_GATES;
+use model::limits::MAX_PAIRS;
+use model::limits::MAX_WIRES;
 ghost use Rattle.printing.specs.PrintoutIn.{PrintoutIn};
 
 // The bytes that are enough for the printout of any file.
@@ -18,15 +21,15 @@ pub fn printout(file: &[u8], out: &mut [u8]) -> usize
     if out.len() < ROOM {
         return 0;
     }
-    let mut delays = [0u32; 64];
-    let mut activities = [0u32; 64];
-    let mut counts = [0u32; 64];
-    let mut step_widths = [0u32; 512];
-    let mut drops = [0u32; 512];
-    let mut sources = [0u32; 256];
-    let mut targets = [0u32; 256];
-    let mut wire_delays = [0u32; 256];
-    let mut order = [0u32; 64];
+    let mut delays = [0u32; MAX_GATES];
+    let mut activities = [0u32; MAX_GATES];
+    let mut counts = [0u32; MAX_GATES];
+    let mut step_widths = [0u32; MAX_PAIRS];
+    let mut drops = [0u32; MAX_PAIRS];
+    let mut sources = [0u32; MAX_WIRES];
+    let mut targets = [0u32; MAX_WIRES];
+    let mut wire_delays = [0u32; MAX_WIRES];
+    let mut order = [0u32; MAX_GATES];
     let loaded = load(
         file,
         &mut delays,

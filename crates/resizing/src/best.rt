@@ -4,21 +4,24 @@ use loading::Loaded;
 use loading::load;
 use model::BestAnswer;
 use model::Refusal;
+use model::limits::MAX_GATES;
+use model::limits::MAX_PAIRS;
+use model::limits::MAX_WIRES;
 ghost use Rattle.model.specs.Answer.{AnswersBest, best-answer};
 
 // The best list to the front of `increases` with its saving, or the first refusal of 1 to 12 that fits.
 pub fn best_increases(file: &[u8], increases: &mut [u32]) -> BestAnswer
     ensures { λ r. ⌜ AnswersBest (now (file .entry)) (now (increases .entry)) (record { answer = best-answer r; memory = now (increases .exit) }) ⌝ }
 {
-    let mut delays = [0u32; 64];
-    let mut activities = [0u32; 64];
-    let mut counts = [0u32; 64];
-    let mut step_widths = [0u32; 512];
-    let mut drops = [0u32; 512];
-    let mut sources = [0u32; 256];
-    let mut targets = [0u32; 256];
-    let mut wire_delays = [0u32; 256];
-    let mut order = [0u32; 64];
+    let mut delays = [0u32; MAX_GATES];
+    let mut activities = [0u32; MAX_GATES];
+    let mut counts = [0u32; MAX_GATES];
+    let mut step_widths = [0u32; MAX_PAIRS];
+    let mut drops = [0u32; MAX_PAIRS];
+    let mut sources = [0u32; MAX_WIRES];
+    let mut targets = [0u32; MAX_WIRES];
+    let mut wire_delays = [0u32; MAX_WIRES];
+    let mut order = [0u32; MAX_GATES];
     let loaded = load(
         file,
         &mut delays,

@@ -4,6 +4,9 @@ use loading::Loaded;
 use loading::load;
 use model::CurveAnswer;
 use model::Refusal;
+use model::limits::MAX_GATES;
+use model::limits::MAX_PAIRS;
+use model::limits::MAX_WIRES;
 ghost use Rattle.model.specs.Answer.{AnswersCurve, CurveBounds, curve-answer};
 
 // The curve's pairs to the front of `widths` and `gains`, with start and the saving at start; or the first refusal of 1 to 11 that fits.
@@ -11,15 +14,15 @@ pub fn curve(file: &[u8], widths: &mut [u32], gains: &mut [u32]) -> CurveAnswer
     ensures { λ r. ⌜ AnswersCurve (now (file .entry)) (record { for-widths = now (widths .entry); for-gains = now (gains .entry) }) (record { answer = curve-answer r; memory = record { for-widths = now (widths .exit); for-gains = now (gains .exit) } }) ⌝ }
     ensures { λ r. ⌜ CurveBounds r (now (gains .exit)) ⌝ }
 {
-    let mut delays = [0u32; 64];
-    let mut activities = [0u32; 64];
-    let mut counts = [0u32; 64];
-    let mut step_widths = [0u32; 512];
-    let mut drops = [0u32; 512];
-    let mut sources = [0u32; 256];
-    let mut targets = [0u32; 256];
-    let mut wire_delays = [0u32; 256];
-    let mut order = [0u32; 64];
+    let mut delays = [0u32; MAX_GATES];
+    let mut activities = [0u32; MAX_GATES];
+    let mut counts = [0u32; MAX_GATES];
+    let mut step_widths = [0u32; MAX_PAIRS];
+    let mut drops = [0u32; MAX_PAIRS];
+    let mut sources = [0u32; MAX_WIRES];
+    let mut targets = [0u32; MAX_WIRES];
+    let mut wire_delays = [0u32; MAX_WIRES];
+    let mut order = [0u32; MAX_GATES];
     let loaded = load(
         file,
         &mut delays,
@@ -41,11 +44,11 @@ pub fn curve(file: &[u8], widths: &mut [u32], gains: &mut [u32]) -> CurveAnswer
             deadline: _,
             activity,
         } => {
-            if widths.len() < 512 {
-                return CurveAnswer::Refused(Refusal::Room { needed: 512 });
+            if widths.len() < MAX_PAIRS {
+                return CurveAnswer::Refused(Refusal::Room { needed: MAX_PAIRS });
             }
-            if gains.len() < 512 {
-                return CurveAnswer::Refused(Refusal::Room { needed: 512 });
+            if gains.len() < MAX_PAIRS {
+                return CurveAnswer::Refused(Refusal::Room { needed: MAX_PAIRS });
             }
             curve_held(
                 gates,

@@ -7,6 +7,9 @@ use loading::Loaded;
 use loading::load;
 use model::JudgeAnswer;
 use model::Refusal;
+use model::limits::MAX_GATES;
+use model::limits::MAX_PAIRS;
+use model::limits::MAX_WIRES;
 ghost use mathlib.Core.List.{List};
 ghost use Prim.Native.Nat.{ℕ, _≤_};
 ghost use lib.ListN.{length};
@@ -53,7 +56,7 @@ fn judge_held(
     if deadline < arrival + longest {
         return JudgeAnswer::Refused(Refusal::PathLate);
     }
-    let mut inputs = [0u32; 64];
+    let mut inputs = [0u32; MAX_GATES];
     input_activities(n, m, sources, targets, activities, 0, activity, &mut inputs);
     let saving = list_saving(n, counts, step_widths, drops, &inputs, increases);
     JudgeAnswer::Accepted { saving }
@@ -63,15 +66,15 @@ fn judge_held(
 pub fn judge(file: &[u8], increases: &[u32]) -> JudgeAnswer
     ensures { λ r. ⌜ AnswersJudge (now (file .entry)) (now (increases .entry)) (record { answer = judge-answer r; memory = now (increases .entry) }) ⌝ }
 {
-    let mut delays = [0u32; 64];
-    let mut activities = [0u32; 64];
-    let mut counts = [0u32; 64];
-    let mut step_widths = [0u32; 512];
-    let mut drops = [0u32; 512];
-    let mut sources = [0u32; 256];
-    let mut targets = [0u32; 256];
-    let mut wire_delays = [0u32; 256];
-    let mut order = [0u32; 64];
+    let mut delays = [0u32; MAX_GATES];
+    let mut activities = [0u32; MAX_GATES];
+    let mut counts = [0u32; MAX_GATES];
+    let mut step_widths = [0u32; MAX_PAIRS];
+    let mut drops = [0u32; MAX_PAIRS];
+    let mut sources = [0u32; MAX_WIRES];
+    let mut targets = [0u32; MAX_WIRES];
+    let mut wire_delays = [0u32; MAX_WIRES];
+    let mut order = [0u32; MAX_GATES];
     let loaded = load(
         file,
         &mut delays,

@@ -1,4 +1,5 @@
 // The longest path with increases added.
+use model::limits::MAX_GATES;
 use timing::times::times_from;
 ghost use Rattle.resizing.specs.Slowed.{Addable, Added, Lasting, Lasts};
 
@@ -28,8 +29,8 @@ pub fn longest_with(
     requires { ⌜ Lasting n m (now order) (now sources) (now targets) (now «wire_delays») (now delays) (now increases) ⌝ }
     ensures { λ r. ⌜ Lasts n m (now (sources .entry)) (now (targets .entry)) (now («wire_delays» .entry)) (now (delays .entry)) (now (increases .entry)) r ⌝ }
 {
-    let mut slowed = [0u32; 64];
-    let mut times = [0u32; 64];
+    let mut slowed = [0u32; MAX_GATES];
+    let mut times = [0u32; MAX_GATES];
     slow_gates(n, delays, increases, &mut slowed);
     times_from(
         n,

@@ -3,6 +3,9 @@ use loading::Loaded;
 use loading::load;
 use model::Refusal;
 use model::SlacksAnswer;
+use model::limits::MAX_GATES;
+use model::limits::MAX_PAIRS;
+use model::limits::MAX_WIRES;
 use timing::slack::write_slacks;
 ghost use Rattle.model.specs.Answer.{AnswersSlacks, slacks-answer};
 
@@ -10,15 +13,15 @@ ghost use Rattle.model.specs.Answer.{AnswersSlacks, slacks-answer};
 pub fn slacks(file: &[u8], out: &mut [i32]) -> SlacksAnswer
     ensures { λ r. ⌜ AnswersSlacks (now (file .entry)) (now (out .entry)) (record { answer = slacks-answer r; memory = now (out .exit) }) ⌝ }
 {
-    let mut delays = [0u32; 64];
-    let mut activities = [0u32; 64];
-    let mut counts = [0u32; 64];
-    let mut step_widths = [0u32; 512];
-    let mut drops = [0u32; 512];
-    let mut sources = [0u32; 256];
-    let mut targets = [0u32; 256];
-    let mut wire_delays = [0u32; 256];
-    let mut order = [0u32; 64];
+    let mut delays = [0u32; MAX_GATES];
+    let mut activities = [0u32; MAX_GATES];
+    let mut counts = [0u32; MAX_GATES];
+    let mut step_widths = [0u32; MAX_PAIRS];
+    let mut drops = [0u32; MAX_PAIRS];
+    let mut sources = [0u32; MAX_WIRES];
+    let mut targets = [0u32; MAX_WIRES];
+    let mut wire_delays = [0u32; MAX_WIRES];
+    let mut order = [0u32; MAX_GATES];
     let loaded = load(
         file,
         &mut delays,

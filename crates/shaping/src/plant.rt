@@ -1,6 +1,9 @@
 // The tree of a block's parts, planted in node arrays.
+use model::limits::MAX_GATES;
+use model::limits::MAX_WIRES;
 use parts::Answer;
 use parts::reduce_network;
+use planting::MAX_REDUCED;
 use planting::NodeNumbers;
 use planting::plant;
 use planting::plant_lone;
@@ -28,15 +31,15 @@ pub fn plant_block(
     ensures planted { λ r. ⌜ ((B : Block) → Given B n m (now (sources .entry)) (now (targets .entry)) (now («wire_delays» .entry)) → PlantedOrNot B r (plot (now (kinds .exit)) (now (lefts .exit)) (now (gates .exit)) (now (rights .exit)) (now (parents .exit)))) ⌝ }
     ensures long { λ r. ⌜ NodesLong (plot (now (kinds .exit)) (now (lefts .exit)) (now (gates .exit)) (now (rights .exit)) (now (parents .exit))) ⌝ }
 {
-    let mut live = [0u32; 256];
-    let mut target = [0u32; 256];
-    let mut top = [0u32; 256];
-    let mut kind = [0u32; 512];
-    let mut left = [0u32; 512];
-    let mut gate = [0u32; 512];
-    let mut right = [0u32; 512];
-    let mut ins = [0u32; 64];
-    let mut outs = [0u32; 64];
+    let mut live = [0u32; MAX_WIRES];
+    let mut target = [0u32; MAX_WIRES];
+    let mut top = [0u32; MAX_WIRES];
+    let mut kind = [0u32; MAX_REDUCED];
+    let mut left = [0u32; MAX_REDUCED];
+    let mut gate = [0u32; MAX_REDUCED];
+    let mut right = [0u32; MAX_REDUCED];
+    let mut ins = [0u32; MAX_GATES];
+    let mut outs = [0u32; MAX_GATES];
     let answer = reduce_network(
         sources,
         targets,

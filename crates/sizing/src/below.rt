@@ -4,7 +4,7 @@ use crate::store::NodeGains;
 use crate::store::head_at;
 use crate::store::index;
 use crate::store::write_head;
-use model::GateNumbers;
+use model::limits::GateNumbers;
 use optimum::Head;
 use optimum::beside;
 use optimum::best_of;

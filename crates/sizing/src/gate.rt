@@ -1,6 +1,7 @@
 // The head of a gate by its steps, and ticks for a gate.
 use crate::store::index;
 use crate::store::write_head;
+use model::limits::MAX_STEPS;
 use optimum::Head;
 use optimum::rank;
 ghost use mathlib.Core.Path.{_≡_};
@@ -34,7 +35,7 @@ fn place_of(g: u32, j: u32) -> usize
     requires { ⌜ (g < most-gates) × (j < max-steps) ⌝ }
     ensures { λ r. ⌜ r ≡ g * max-steps + j ⌝ }
 {
-    (g as usize) * 8 + (j as usize)
+    (g as usize) * MAX_STEPS + (j as usize)
 }
 
 // The head of gate g with the increase k.

@@ -1,14 +1,16 @@
 // Heads stored in arrays, an entry a gate or a node.
+use model::limits::MAX_GATES;
 use optimum::Head;
+use planting::MAX_NODES;
 ghost use mathlib.Core.Path.{_≡_};
 ghost use Rattle.optimum.specs.Code.{head-of};
 ghost use Rattle.sizing.specs.Stored.{Room, stored, head-at, put};
 
 // A gain for each gate.
-pub type GateGains = [u64; 64];
+pub type GateGains = [u64; MAX_GATES];
 
 // A gain for each node.
-pub type NodeGains = [u64; 515];
+pub type NodeGains = [u64; MAX_NODES];
 
 // A stored number as an index.
 pub fn index(x: u32) -> usize

@@ -2,8 +2,8 @@
 use crate::handout::series_give_out;
 use crate::store::GateGains;
 use crate::store::NodeGains;
-use model::GateNumbers;
-use model::StepNumbers;
+use model::limits::GateNumbers;
+use model::limits::StepNumbers;
 use planting::NodeNumbers;
 ghost use mathlib.Core.Path.{_≡_};
 ghost use Prim.Native.Nat.{_<_};

@@ -7,6 +7,7 @@ ghost use Rattle.model.specs.Limits.{max-gates};
 ghost use Rattle.timing.specs.Slacks.{Reversed, Subtractable, Slackable, left-at, slack-in};
 use crate::number::left_of;
 use crate::times::times_from;
+use model::limits::MAX_GATES;
 
 // The first n elements of an order, the other way round.
 pub fn reverse_order(n: usize, order: &[u32], back: &mut [u32])
@@ -55,9 +56,9 @@ pub fn write_slacks(
     requires { ⌜ Slackable n m (now order) (now sources) (now targets) (now «wire_delays») (now «gate_delays») arrival deadline (now out) ⌝ }
     ensures { λ r. ⌜ now (out .exit) ≡ over (build n (slack-in n m (now (sources .entry)) (now (targets .entry)) (now («wire_delays» .entry)) (now («gate_delays» .entry)) arrival deadline)) (now (out .entry)) ⌝ }
 {
-    let mut times = [0u32; 64];
-    let mut tails = [0u32; 64];
-    let mut back = [0u32; 64];
+    let mut times = [0u32; MAX_GATES];
+    let mut tails = [0u32; MAX_GATES];
+    let mut back = [0u32; MAX_GATES];
     reverse_order(n, order, &mut back);
     times_from(
         n,

@@ -1,6 +1,7 @@
 // Start, the longest path with no increase, and spare, what it leaves of the deadline.
 use crate::number::left_of;
 use crate::times::times_from;
+use model::limits::MAX_GATES;
 ghost use mathlib.Core.Path.{_≡_};
 ghost use Prim.Native.Nat.{_+_, _≤_};
 ghost use lib.IntN.{pos, _-ℤ_};
@@ -21,7 +22,7 @@ pub fn start_time(
     requires { ⌜ Startable n m (now order) (now sources) (now targets) (now «wire_delays») (now «gate_delays») ⌝ }
     ensures { λ r. ⌜ StartIs n m (now (sources .entry)) (now (targets .entry)) (now («wire_delays» .entry)) (now («gate_delays» .entry)) r ⌝ }
 {
-    let mut times = [0u32; 64];
+    let mut times = [0u32; MAX_GATES];
     times_from(
         n,
         m,

@@ -2,6 +2,8 @@
 ghost use Rattle.timing.specs.Times.{Timeable, LatestTimes};
 use crate::chain::chain_wires;
 use crate::latest::latest_times;
+use model::limits::MAX_GATES;
+use model::limits::MAX_WIRES;
 
 // The latest time at the output of each of n gates, where signals start at `base`.
 pub fn times_from(
@@ -18,8 +20,8 @@ pub fn times_from(
     requires { ⌜ Timeable n m (now order) (now sources) (now targets) (now «wire_delays») (now «gate_delays») base (now times) ⌝ }
     ensures { λ r. ⌜ LatestTimes n m (now (sources .entry)) (now (targets .entry)) (now («wire_delays» .entry)) (now («gate_delays» .entry)) base (now (times .exit)) ⌝ }
 {
-    let mut heads = [0u32; 64];
-    let mut links = [0u32; 256];
+    let mut heads = [0u32; MAX_GATES];
+    let mut links = [0u32; MAX_WIRES];
     chain_wires(m, targets, &mut heads, &mut links);
     latest_times(
         n,

@@ -1,0 +1,22 @@
+// Document 01's limits of a file (specs/Limits.antt), and the lengths of arrays that follow from them.
+
+// Gates of a file.
+pub const MAX_GATES: usize = 64;
+
+// Wires of a file.
+pub const MAX_WIRES: usize = 256;
+
+// Steps of a gate.
+pub const MAX_STEPS: usize = 8;
+
+// Steps of all gates, and pairs of a curve.
+pub const MAX_PAIRS: usize = MAX_GATES * MAX_STEPS;
+
+// Pairs of gates.
+pub const GATES_SQUARED: usize = MAX_GATES * MAX_GATES;
+
+// A number for each gate.
+pub type GateNumbers = [u32; MAX_GATES];
+
+// A number for each step.
+pub type StepNumbers = [u32; MAX_PAIRS];
