@@ -5,7 +5,7 @@ use mathlib.Core.List.{List, [], _∷_, List·Memᴰ, List·Memᴰ·head, List·
 use Prim.Native.Nat.{ℕ, _+_, _-_, _*_, _^_, _≤_, _<_, min, max}
 use native.Mathlib.Nat.{mul-le-mul-right, mul-le-mul-left, add-mul}
 use native.Mathlib.Omega.{arith}
-use lib.ListN.{length, getD}
+use lib.ListN.{length}
 use Rattle.lists.specs.Sum.{sum}
 use Rattle.model.specs.Limits.{max-gates, max-pairs, max-gain, max-activity, max-drop, max-time}
 use Rattle.model.specs.Block.{Block, gate-count}
@@ -13,15 +13,15 @@ use Rattle.model.specs.Curve.{Pair, count-off}
 use Rattle.optimum.specs.BlockTree.{block-tree, increases, pairs-of}
 use Rattle.optimum.proofs.Curve.{saving-after, pairs-few}
 use Rattle.optimum.proofs.Optimum.{pair-range}
-use Rattle.gains.specs.Savings.{ListSaving, most-of-gate}
-use Rattle.sizing.specs.Raise.{root}
+use Rattle.gains.specs.Savings.{most-of-gate}
 use Rattle.sizing.specs.Pairs.{Spent}
 use Rattle.sizing.proofs.Blocks.{heads-are}
 use Rattle.sizing.proofs.Spent.{spent-increases, spent-earns}
 use Rattle.curve.specs.Position.{pairs-in}
 use Rattle.shaping.proofs.Facts.{join, no-wire-twice, descending, ranges}
-use Rattle.answers.specs.TreeHeld.{TreeArrays, TreeHeld, IncreasesFound}
-use Rattle.answers.proofs.TreeLaws.{plan-of, is-tree, gates-few, saved-is, steps-are, steps-few}
+use Rattle.answers.specs.declared.tree.TreeCurve.{TreeCurve}
+use Rattle.answers.specs.TreeHeld.{TreeArrays, TreeHeld, RunsFound, IncreasesFound}
+use Rattle.answers.proofs.TreeLaws.{is-tree, gates-few, saved-is, steps-are, steps-few}
 
 -- k ticks counted off earn at most k times the greatest gain
 count-off-most : (g : ℕ) (ps : List Pair) → ((p : Pair) → List·Memᴰ p ps → p .gain ≤ g) → (k : ℕ) → count-off ps k ≤ k * g
@@ -52,37 +52,36 @@ module _ {B : Block} {n : ℕ} {A : TreeArrays} (h : TreeHeld B n A) where
       )
 
   -- ticks spent from the raised start on
-  module _ {x x′ old-ws old-gs ws gs : List ℕ} {s r ticks saved counted : ℕ} (at-start : x ≡ increases B (block-tree B (h .fits)) 0)
-      (steps : s ≡ sum n (λ (g : ℕ). getD (A .counts) g 0)) (saves : ListSaving n (A .counts) (A .step-widths) (A .drops) (A .inputs) x saved)
-      (spent : Spent (plan-of h) x x′ (root (plan-of h)) ticks s r old-ws old-gs ws gs) (off : counted ≡ count-off (pairs-in r ws gs) ticks) where
-    list-after : x′ ≡ increases B (block-tree B (h .fits)) ticks
+  module _ {after old-ws old-gs ws gs : List ℕ} {ticks counted : ℕ} {r : TreeCurve} (found : RunsFound B (h .fits) n A ticks after old-ws old-gs ws gs r)
+      (off : counted ≡ count-off (pairs-in (r .pairs) ws gs) ticks) where
+    list-after : after ≡ increases B (block-tree B (h .fits)) ticks
     list-after =
-        spent .increases
-        ∙ rw (h .top, at-start, steps, steps-are h, heads-are (h .held)) (spent-increases B (block-tree B (h .fits)) (is-tree h) (descending B (h .limits)) ticks)
+        found .spent .increases
+        ∙ rw (h .top, found .at-start, steps-are h, heads-are (h .held)) (spent-increases B (block-tree B (h .fits)) (is-tree h) (descending B (h .limits)) ticks)
 
     counted-is : counted ≡ count-off (pairs-of B (block-tree B (h .fits))) ticks
     counted-is =
         off
-        ∙ ap (λ (ps : List Pair). count-off ps ticks) (spent .pairs)
-        ∙ rw (h .top, at-start, steps, steps-are h, heads-are (h .held)) (spent-earns B (block-tree B (h .fits)) (is-tree h) (descending B (h .limits)) ticks)
+        ∙ ap (λ (ps : List Pair). count-off ps ticks) (found .spent .pairs)
+        ∙ rw (h .top, found .at-start, steps-are h, heads-are (h .held)) (spent-earns B (block-tree B (h .fits)) (is-tree h) (descending B (h .limits)) ticks)
 
     -- the sum fits 64 bits
-    pub sum-fits : ticks ≤ max-time → saved + counted < 2 ^ 64
+    pub sum-fits : ticks ≤ max-time → r .saving + counted < 2 ^ 64
     sum-fits few =
         omega (
           arith,
-          saves .small,
+          found .saves .small,
           mul-le-mul-right most-of-gate (gates-few h),
           counted-is,
           count-off-most max-gain (pairs-of B (block-tree B (h .fits))) gains-few ticks,
           mul-le-mul-right max-gain few,
         )
 
-    pub increases-found : IncreasesFound B (h .fits) ticks x′ (saved + counted)
+    pub increases-found : IncreasesFound B (h .fits) ticks after (r .saving + counted)
     increases-found =
         record {
           list = list-after;
           saved =
-              rw (saved-is h saves, at-start, counted-is, list-after)
+              rw (saved-is h (found .saves), found .at-start, counted-is, list-after)
               (sym (saving-after B (block-tree B (h .fits)) (is-tree h) (descending B (h .limits)) ticks));
         }

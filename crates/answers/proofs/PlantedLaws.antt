@@ -4,11 +4,10 @@ use mathlib.Core.Path.{_≡_, sym, _∙_, ap, subst}
 use mathlib.Core.List.{List}
 use Prim.Native.Nat.{ℕ, _-_, _≤_, _<_}
 use native.Mathlib.Omega.{arith}
-use lib.ListN.{length, getD, take}
+use lib.ListN.{length, take}
 use lib.Seq.{length-take-le, getD-take}
 use Rattle.lists.proofs.Over.{build-same}
 use Rattle.model.specs.Limits.{max-gates}
-use Rattle.model.specs.Block.{Gate, Block}
 use Rattle.model.specs.InTime.{drawn}
 use Rattle.model.specs.Slack.{start}
 use Rattle.model.specs.Arrays.{gate-at}

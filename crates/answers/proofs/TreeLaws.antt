@@ -9,7 +9,7 @@ use native.Mathlib.Omega.{arith}
 use lib.ListN.{length, getD, length-map, length-replicate, List·getD-map}
 use lib.Seq.{ext-getD}
 use Rattle.lists.specs.Sum.{sum}
-use Rattle.lists.specs.Over.{build, over}
+use Rattle.lists.specs.Over.{over}
 use Rattle.lists.proofs.Sum.{sum-same, sum-le}
 use Rattle.lists.proofs.Over.{length-build, getD-build, length-over, getD-over-front, getD-over-behind}
 use Rattle.lists.proofs.Compare.{le-or-lt}
@@ -33,7 +33,7 @@ use Rattle.optimum.specs.BlockTree.{block-tree, increases, step-count, pairs-of
 use Rattle.optimum.proofs.BlockTree.{block-is-tree}
 use Rattle.optimum.proofs.Range.{block-gain}
 use Rattle.planting.specs.Copy.{max-nodes}
-use Rattle.sizing.specs.Plan.{Plan, plan, part, parent, heads-in, Sound, StepsLent}
+use Rattle.sizing.specs.Plan.{Plan, part, heads-in, Sound, StepsLent}
 use Rattle.sizing.specs.Stored.{Stored, Room}
 use Rattle.sizing.specs.Raise.{root, delays-in, Measurable, Raised, Sizable}
 use Rattle.sizing.specs.Pairs.{pair, pairs-in, Curvable, NodeCurve}
@@ -41,8 +41,10 @@ use Rattle.sizing.proofs.Blocks.{Held, as-many, heads-are, heads-sound, increas
 use Rattle.sizing.proofs.Bounds.{gains-small, widths-small, reach-small}
 use Rattle.sizing.proofs.Locals.{gate-below}
 use Rattle.sizing.proofs.Starting.{root-curvable}
+use Rattle.sizing.proofs.Spent.{whole-curve}
 use Rattle.shaping.proofs.Facts.{join, no-wire-twice, descending, ranges}
-use Rattle.answers.specs.TreeHeld.{TreeArrays, TreeHeld, CurveFound}
+use Rattle.answers.specs.declared.tree.TreeCurve.{TreeCurve}
+use Rattle.answers.specs.TreeHeld.{TreeArrays, TreeHeld, tree-plan, RunsFound, CurveFound}
 
 -- heads for so many places are stored
 pub record Places (H : Stored) (n : ℕ) : Type 0 where
@@ -80,7 +82,7 @@ module _ {B : Block} {n : ℕ} {A : TreeArrays} (h : TreeHeld B n A) where
   heads = heads-in n (A .counts) (A .step-widths) (A .drops) (A .inputs)
 
   abbrev pub plan-of : Plan
-  plan-of = record { gate-count = n; nodes = A .nodes; parents = A .parents; heads = heads }
+  plan-of = tree-plan n A
 
   abbrev tree : Tree
   tree = block-tree B (h .fits)
@@ -205,37 +207,38 @@ module _ {B : Block} {n : ℕ} {A : TreeArrays} (h : TreeHeld B n A) where
       at-rest : Sizable plan-of (record { increases = no-increase n; gates = empty max-gates; nodes = empty max-nodes })
       at-rest = sizable (length-replicate {A = ℕ} n 0) (empty-places max-gates) (empty-places max-nodes)
 
-  -- the pairs noted are those of the block's curve
-  module _ {x ws gs ws′ gs′ : List ℕ} {s r : ℕ} (at-start : x ≡ increases B tree 0) (steps : s ≡ sum n (λ (g : ℕ). getD (A .counts) g 0))
-      (noted : NodeCurve plan-of x (root plan-of) s r ws gs ws′ gs′) where
-    all-pairs : pairs-in r ws′ gs′ ≡ pairs-of B tree
-    all-pairs = noted .pairs ∙ rw (h .top, at-start, steps, steps-are) (rw (increases-are (h .held) tree 0) at (pairs-are (h .held) tree))
+  -- with ticks for all steps, the pairs noted are those of the block's curve
+  module _ {after ws gs ws′ gs′ : List ℕ} {ticks : ℕ} {r : TreeCurve} (found : RunsFound B (h .fits) n A ticks after ws gs ws′ gs′ r) (enough : max-pairs * max-width ≤ ticks) where
+    noted : NodeCurve plan-of (found .start) (root plan-of) (sum n (λ (g : ℕ). getD (A .counts) g 0)) (r .pairs) ws gs ws′ gs′
+    noted = whole-curve (sound .heads) (widths-small steps-lent narrow) (found .spent) (omega (arith, steps-few))
 
-    pub pair-count : r ≡ length (pairs-of B tree)
-    pair-count = sym (length-build r (λ (i : ℕ). pair (getD ws′ i 0) (getD gs′ i 0))) ∙ ap (λ ps. length ps) all-pairs
+    all-pairs : pairs-in (r .pairs) ws′ gs′ ≡ pairs-of B tree
+    all-pairs = noted .pairs ∙ rw (h .top, found .at-start, steps-are) (rw (increases-are (h .held) tree 0) at (pairs-are (h .held) tree))
+
+    pair-count : r .pairs ≡ length (pairs-of B tree)
+    pair-count = sym (length-build (r .pairs) (λ (i : ℕ). pair (getD ws′ i 0) (getD gs′ i 0))) ∙ ap (λ ps. length ps) all-pairs
 
     -- one of the two slices: f is the width or the gain of a pair
     one-slice : (f : Pair → ℕ) (old new : List ℕ) → f (pair 0 0) ≡ 0 → max-pairs ≤ length old → length new ≡ length old
         → ((i : ℕ) → getD new i 0 ≡ f (pair (getD ws′ i 0) (getD gs′ i 0)))
-        → ((i : ℕ) → r ≤ i → getD new i 0 ≡ getD old i 0)
+        → ((i : ℕ) → r .pairs ≤ i → getD new i 0 ≡ getD old i 0)
         → new ≡ over (map f (pairs-of B tree)) old
     one-slice f old new none long same holds behind =
         is-over (map f (pairs-of B tree)) old new (omega (arith, as-long, noted .few, steps-few)) same
         (λ i l. holds i ∙ sym (ap f (here i (omega (arith, as-long)))) ∙ sym (rw none at (List·getD-map f (pairs-of B tree) i (pair 0 0))))
         (λ i l. behind i (omega (arith, as-long)))
       where
-        as-long : length (map f (pairs-of B tree)) ≡ r
+        as-long : length (map f (pairs-of B tree)) ≡ r .pairs
         as-long = length-map (pairs-of B tree) f ∙ sym pair-count
 
-        here : (i : ℕ) → i < r → getD (pairs-of B tree) i (pair 0 0) ≡ pair (getD ws′ i 0) (getD gs′ i 0)
-        here i l = rw all-pairs at (getD-build r (λ (j : ℕ). pair (getD ws′ j 0) (getD gs′ j 0)) i (pair 0 0) l)
+        here : (i : ℕ) → i < r .pairs → getD (pairs-of B tree) i (pair 0 0) ≡ pair (getD ws′ i 0) (getD gs′ i 0)
+        here i l = rw all-pairs at (getD-build (r .pairs) (λ (j : ℕ). pair (getD ws′ j 0) (getD gs′ j 0)) i (pair 0 0) l)
 
-    pub curve-found : {saved : ℕ} → ListSaving n (A .counts) (A .step-widths) (A .drops) (A .inputs) x saved → max-pairs ≤ length ws → max-pairs ≤ length gs → length ws′ ≡ length ws → length gs′ ≡ length gs
-        → CurveFound B (h .fits) ws gs ws′ gs′ (record { saving = saved; pairs = r })
-    curve-found e wl gl ws-same gs-same =
+    pub curve-found : max-pairs ≤ length ws → max-pairs ≤ length gs → length ws′ ≡ length ws → length gs′ ≡ length gs → CurveFound B (h .fits) ws gs ws′ gs′ r
+    curve-found wl gl ws-same gs-same =
         record {
-          saved = saved-is e ∙ ap (saving B) at-start;
-          small = omega (arith, e .small, mul-le-mul-right most-of-gate gates-few);
+          saved = saved-is (found .saves) ∙ ap (saving B) (found .at-start);
+          small = omega (arith, found .saves .small, mul-le-mul-right most-of-gate gates-few);
           count = pair-count;
           widths = one-slice (λ (p : Pair). p .width) ws ws′ refl wl ws-same (λ i. refl) (noted .other-widths);
           gains = one-slice (λ (p : Pair). p .gain) gs gs′ refl gl gs-same (λ i. refl) (noted .other-gains);

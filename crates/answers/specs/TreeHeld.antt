@@ -2,7 +2,8 @@
 use mathlib.Core.Path.{_≡_}
 use mathlib.Core.List.{List, map}
 use Prim.Native.Nat.{ℕ, _-_, _*_, _^_, _≤_, _<_}
-use lib.ListN.{length}
+use lib.ListN.{length, getD}
+use Rattle.lists.specs.Sum.{sum}
 use Rattle.lists.specs.Over.{over}
 use Rattle.model.specs.Limits.{max-gates, max-steps}
 use Rattle.model.specs.Block.{Block}
@@ -11,12 +12,13 @@ use Rattle.model.specs.Gain.{saving}
 use Rattle.model.specs.Curve.{Pair}
 use Rattle.model.specs.Refusal.{SoundNetwork}
 use Rattle.model.proofs.Limited.{BlockLimits}
-use Rattle.gains.specs.Savings.{most-of-gate}
+use Rattle.gains.specs.Savings.{ListSaving, most-of-gate}
 use Rattle.parts.specs.Nodes.{Nodes}
 use Rattle.optimum.specs.Tree.{Below, zeros, longest}
 use Rattle.optimum.specs.BlockTree.{block-tree, start-of, increases, pairs-of}
-use Rattle.sizing.specs.Plan.{node-count, part, kind, left, gate, right, parent, Shaped}
-use Rattle.sizing.specs.Raise.{delays-in}
+use Rattle.sizing.specs.Plan.{Plan, node-count, part, parent, heads-in, Shaped}
+use Rattle.sizing.specs.Raise.{root, delays-in}
+use Rattle.sizing.specs.Pairs.{Spent}
 use Rattle.sizing.proofs.Blocks.{Held}
 use Rattle.answers.specs.declared.tree.TreeCurve.{TreeCurve}
 
@@ -63,6 +65,16 @@ pub record TreeHeld (B : Block) (n : ℕ) (A : TreeArrays) : Type 0 where
   pub widths-long : n * max-steps ≤ length (A .step-widths)
   pub drops-long : n * max-steps ≤ length (A .drops)
   pub inputs-long : n ≤ length (A .inputs)
+
+abbrev pub tree-plan : ℕ → TreeArrays → Plan
+tree-plan n A = record { gate-count = n; nodes = A .nodes; parents = A .parents; heads = heads-in n (A .counts) (A .step-widths) (A .drops) (A .inputs) }
+
+-- The ticks have been spent from the raised start on, on at most as many runs as there are steps: what the increases at start save, and the pairs of the curve of the runs.
+pub record RunsFound (B : Block) (fits : SeriesParallel B) (n : ℕ) (A : TreeArrays) (ticks : ℕ) (after ws gs ws′ gs′ : List ℕ) (r : TreeCurve) : Type 0 where
+  pub start : List ℕ
+  pub at-start : start ≡ increases B (block-tree B fits) 0
+  pub saves : ListSaving n (A .counts) (A .step-widths) (A .drops) (A .inputs) start (r .saving)
+  pub spent : Spent (tree-plan n A) start after (root (tree-plan n A)) ticks (sum n (λ (g : ℕ). getD (A .counts) g 0)) (r .pairs) ws gs ws′ gs′
 
 -- The saving at start, and the pairs of the block's curve in front of the two slices.
 pub record CurveFound (B : Block) (fits : SeriesParallel B) (ws gs ws′ gs′ : List ℕ) (r : TreeCurve) : Type 0 where

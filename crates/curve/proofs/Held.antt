@@ -8,7 +8,6 @@ use native.Mathlib.Nat.{mul-zero, min-eq-left, min-eq-right, le-of-lt}
 use native.Mathlib.Omega.{arith}
 use lib.ListN.{length, getD, List·getD-eq-default}
 use Rattle.lists.proofs.Compare.{le-or-lt}
-use Rattle.lists.specs.Over.{build}
 use Rattle.lists.proofs.Over.{length-build, getD-build}
 use Rattle.model.specs.Curve.{Pair}
 use Rattle.curve.specs.declared.position.Position.{Position}

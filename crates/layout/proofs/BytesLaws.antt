@@ -7,7 +7,7 @@ use native.Mathlib.Numerals.{add-one}
 use native.Mathlib.Nat.{div-one}
 use native.Mathlib.Omega.{arith}
 use lib.ListN.{length, getD, take, drop, set, length-append}
-use lib.Seq.{sets, sets-eq, take-suc, length-take-le, take-at, drop-append-add, drop-drop}
+use lib.Seq.{sets-eq, take-suc, length-take-le, take-at, drop-append-add, drop-drop}
 use Rattle.lists.specs.Over.{over}
 use Rattle.lists.proofs.Over.{over-none}
 use Rattle.model.specs.Layout.{four-bytes, list-bytes}

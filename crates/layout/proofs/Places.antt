@@ -15,7 +15,7 @@ use Rattle.model.specs.Block.{Wire, Block, Stands}
 use Rattle.model.specs.Netlist.{block-of}
 use Rattle.model.specs.Path.{step, on}
 use Rattle.model.specs.Field.{header-bytes, body-at, body-to}
-use Rattle.model.specs.File.{Due, block, gate, wire, length-fits, says, fault, found, refused, decode, read-block}
+use Rattle.model.specs.File.{Due, block, gate, wire, length-fits, says, fault, found, decode, read-block}
 use Rattle.model.specs.Refusal.{OnLoop, EndFault, into-first, none-in, out-of-last, none-out, IllFormed, unread, loop, ends}
 use Rattle.model.proofs.Fields.{length-body}
 use Rattle.model.proofs.Fault.{faultless-from-0}

@@ -23,8 +23,6 @@ use Rattle.model.proofs.SameDelays.{source-same}
 use Rattle.model.proofs.Slack.{entered}
 use Rattle.model.proofs.Source.{Entered, source-attained, source-greatest}
 use Rattle.blockfile.specs.Held.{GateArrays, WireArrays}
-use Rattle.network.specs.Wires.{Lent}
-use Rattle.timing.proofs.Found.{along}
 use Rattle.gains.specs.Steps.{WidthsLent, Held, LowestExceeding}
 use Rattle.gains.specs.Activities.{InputActivities}
 use Rattle.gains.specs.Savings.{Earnable, ListSaving}

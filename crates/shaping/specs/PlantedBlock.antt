@@ -1,7 +1,7 @@
 -- What planting the tree of a block asks, and what it leaves in the node arrays.
 use mathlib.Core.Path.{_≡_}
 use mathlib.Core.List.{List}
-use Prim.Native.Nat.{ℕ, _+_, _≤_, _<_}
+use Prim.Native.Nat.{ℕ, _≤_, _<_}
 use lib.ListN.{length}
 use Rattle.model.specs.Block.{Block}
 use Rattle.model.specs.Part.{SeriesParallel}

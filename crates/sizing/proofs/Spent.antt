@@ -26,8 +26,7 @@ use Rattle.optimum.proofs.Gates.{gate-heads, gate-left, gate-steps}
 use Rattle.optimum.proofs.Runs.{Steps, run-ends-step, no-steps, joined-counts}
 use Rattle.optimum.proofs.Curve.{placed, few-steps}
 use Rattle.sizing.specs.Plan.{Plan, part}
-use Rattle.sizing.specs.State.{State}
-use Rattle.sizing.specs.Pairs.{pair, next-run, spent-runs, spent-list, Curvable, NodeCurve, Spent}
+use Rattle.sizing.specs.Pairs.{pair, next-run, spent-runs, spent-list, NodeCurve, Spent}
 use Rattle.sizing.proofs.Ticking.{run-none, run-some}
 
 -- without ticks nothing is earned
@@ -158,12 +157,13 @@ module _ (B : Block) (t : Tree) (tree : IsTree B t) (descending : (g : ℕ) → 
       ∙ sym (joined-counts (gains-of B t) k)
 
 -- with ticks for all steps at the greatest width, the pairs are those of the node's curve
-pub whole-curve : {P : Plan} {S : State} {x′ : List ℕ} {i ticks steps r : ℕ} {widths gains widths′ gains′ : List ℕ} → Curvable P S i steps
-    → Spent P (S .increases) x′ i ticks steps r widths gains widths′ gains′ → steps * max-width ≤ ticks → NodeCurve P (S .increases) i steps r widths gains widths′ gains′
-whole-curve {P} {S} {i = i} {ticks = ticks} {steps = steps} able spent enough =
+pub whole-curve : {P : Plan} {x x′ : List ℕ} {i ticks steps r : ℕ} {widths gains widths′ gains′ : List ℕ} → Heads (P .gate-count) (P .heads)
+    → ((g k : ℕ) → P .heads g k .width ≤ max-width) → Spent P x x′ i ticks steps r widths gains widths′ gains′ → steps * max-width ≤ ticks
+    → NodeCurve P x i steps r widths gains widths′ gains′
+whole-curve {P} {x} {i = i} {ticks = ticks} {steps = steps} sound narrow spent enough =
     record {
       pairs = spent .pairs
-          ∙ ap joined (spent-whole (P .gate-count) (P .heads) (able .ready .sound .heads) (part (P .nodes) i) max-width (able .widths) steps ticks (S .increases) enough);
+          ∙ ap joined (spent-whole (P .gate-count) (P .heads) sound (part (P .nodes) i) max-width narrow steps ticks x enough);
       few = spent .few;
       other-widths = spent .other-widths;
       other-gains = spent .other-gains;

@@ -1,41 +1,23 @@
--- `answers::tree::tree_curve` meets its contract: the runs from the raised start on are noted. Assumes nothing.
-use borrow.Author.Needs.{needs}
-use mathlib.Core.Path.{_∙_}
+-- `answers::tree::tree_curve` meets its contract: with ticks for all steps, the runs noted are the curve's. Assumes nothing.
 use native.Mathlib.Omega.{arith}
-use Rattle.sizing.proofs.Spent.{whole-curve}
-use Rattle.answers.proofs.TreeLaws.{gates-few, counts-small, steps-lent, sizable, measurable, list-is, earnable, steps-few, curvable, curve-found}
+use Rattle.answers.proofs.TreeLaws.{curve-found}
 use Rattle.answers.proofs.tree.tree_curve.Statement.{statement}
 use Rattle.answers.proofs.tree.tree_curve.Tie as tie
 
-slice-aggregate-start : tie.Need-slice-aggregate-start
-slice-aggregate-start c = search needs
-
-start-requires : tie.Need-start-requires
-start-requires c κs = (sizable (c .before .before .before .before .before .before .before .before .before .before .before .before .before .pre .0 .1) (c .before .before .before .before .before .before .before .before .before .before .before .before .before .pre .1 .0) (record { widths-long = omega arith; gains-long = omega arith; ranks-long = omega arith }) (record { widths-long = omega arith; gains-long = omega arith; ranks-long = omega arith }), (steps-lent (c .before .before .before .before .before .before .before .before .before .before .before .before .before .pre .0 .1), measurable (c .before .before .before .before .before .before .before .before .before .before .before .before .before .pre .0 .1) (omega arith)))
-
-list-saving-requires : tie.Need-list-saving-requires
-list-saving-requires c κs = earnable (c .before .before .before .before .before .before .before .before .before .before .before .before .before .before .before .before .before .before .before .before .before .before .pre .0 .1) (c .before .before .before .before .before .before .before .before .start .kept .1 .1 .1 .1 .1 .1 .1 .1 .1 .1 .1 .1 .0 ∙ c .before .before .before .before .before .before .before .before .before .before .before .before .before .before .before .before .before .before .before .before .before .before .pre .1 .0)
-
-step-count-requires : tie.Need-step-count-requires
-step-count-requires c κs = (gates-few (c .before .before .before .before .before .before .before .before .before .before .before .before .before .before .before .before .before .before .before .before .before .before .before .before .pre .0 .1), (c .before .before .before .before .before .before .before .before .before .before .before .before .before .before .before .before .before .before .before .before .before .before .before .before .pre .0 .1) .counts-long, counts-small (c .before .before .before .before .before .before .before .before .before .before .before .before .before .before .before .before .before .before .before .before .before .before .before .before .pre .0 .1))
-
-sub-spend-ticks : tie.Need-sub-spend-ticks
-sub-spend-ticks c = omega (arith, (c .before .before .before .before .before .before .before .before .before .before .before .before .before .before .before .before .before .before .before .before .before .before .before .before .before .pre .0 .1) .some-node)
-
-spend-ticks-requires : tie.Need-spend-ticks-requires
-spend-ticks-requires c κs = (curvable (c .before .before .before .before .before .before .before .before .before .before .before .before .before .before .before .before .before .before .before .before .before .before .before .before .before .before .before .before .before .before .before .before .before .before .pre .0 .1) (c .before .before .before .before .before .before .before .before .before .before .before .before .before .before .before .before .before .before .before .before .start .ensures) (c .before .before .before .before .before .before .before .before .before .step-count .ensures), (steps-lent (c .before .before .before .before .before .before .before .before .before .before .before .before .before .before .before .before .before .before .before .before .before .before .before .before .before .before .before .before .before .before .before .before .before .before .pre .0 .1), (omega (arith, steps-few (c .before .before .before .before .before .before .before .before .before .before .before .before .before .before .before .before .before .before .before .before .before .before .before .before .before .before .before .before .before .before .before .before .before .before .pre .0 .1), c .before .before .before .before .before .before .before .before .before .step-count .ensures, c .before .before .before .before .before .before .before .before .before .before .before .before .before .before .before .before .before .before .before .before .before .before .before .before .before .before .before .before .before .before .before .before .before .before .pre .1 .1 .0), omega (arith, steps-few (c .before .before .before .before .before .before .before .before .before .before .before .before .before .before .before .before .before .before .before .before .before .before .before .before .before .before .before .before .before .before .before .before .before .before .pre .0 .1), c .before .before .before .before .before .before .before .before .before .step-count .ensures, c .before .before .before .before .before .before .before .before .before .before .before .before .before .before .before .before .before .before .before .before .before .before .before .before .before .before .before .before .before .before .before .before .before .before .pre .1 .1 .1))))
+tree-runs-requires : tie.Need-tree-runs-requires
+tree-runs-requires c κs = c .before .before .before .before .before .before .before .before .pre
 
 same-length : tie.Need-same-length
-same-length c = c .before .before .before .before .before .before .spend-ticks .kept .1 .1 .1 .1 .1 .1 .1 .1 .1 .1 .1 .1 .1 .0 ∙ c .before .before .before .before .before .before .before .before .before .before .before .before .before .before .before .before .before .before .before .before .before .before .before .before .before .before .before .start .kept .1 .1 .1 .1 .1 .1 .1 .1 .1 .1 .1 .1 .0
+same-length c = c .before .before .before .before .before .before .tree-runs .kept .1 .1 .1 .1 .1 .1 .1 .1 .1 .1 .1 .1 .0
 
 same-length-2 : tie.Need-same-length-2
-same-length-2 c = c .before .before .before .before .before .before .spend-ticks .kept .1 .1 .1 .1 .1 .1 .1 .1 .1 .1 .1 .1 .1 .1 .1 .1 .1 .1 .1 .1 .0
+same-length-2 c = c .before .before .before .before .before .before .tree-runs .kept .1 .1 .1 .1 .1 .1 .1 .1 .1 .1 .1 .1 .1 .0
 
 same-length-3 : tie.Need-same-length-3
-same-length-3 c = c .before .before .before .before .before .before .spend-ticks .kept .1 .1 .1 .1 .1 .1 .1 .1 .1 .1 .1 .1 .1 .1 .1 .1 .1 .1 .1 .1 .1 .0
+same-length-3 c = c .before .before .before .before .before .before .tree-runs .kept .1 .1 .1 .1 .1 .1 .1 .1 .1 .1 .1 .1 .1 .1 .0
 
 returns : tie.Need-returns
-returns c = λ B held. curve-found held (list-is held 0 (c .before .before .before .before .before .before .before .before .before .before .before .before .before .before .before .before .before .before .before .before .before .before .before .before .before .before .before .start .ensures .increases)) (c .before .before .before .before .before .before .before .before .before .before .before .before .before .before .before .before .step-count .ensures) (whole-curve (curvable held (c .before .before .before .before .before .before .before .before .before .before .before .before .before .before .before .before .before .before .before .before .before .before .before .before .before .before .before .start .ensures) (c .before .before .before .before .before .before .before .before .before .before .before .before .before .before .before .before .step-count .ensures)) (c .before .before .before .before .before .before .spend-ticks .ensures) (omega (arith, steps-few held, c .before .before .before .before .before .before .before .before .before .before .before .before .before .before .before .before .step-count .ensures))) (c .before .before .before .before .before .before .before .before .before .before .before .before .before .before .before .before .before .before .list-saving .ensures) (c .before .before .before .before .before .before .before .before .before .before .before .before .before .before .before .before .before .before .before .before .before .before .before .before .before .before .before .before .before .before .before .before .before .before .before .before .before .before .before .before .before .pre .1 .1 .0) (c .before .before .before .before .before .before .before .before .before .before .before .before .before .before .before .before .before .before .before .before .before .before .before .before .before .before .before .before .before .before .before .before .before .before .before .before .before .before .before .before .before .pre .1 .1 .1) (c .before .before .before .before .before .before .spend-ticks .kept .1 .1 .1 .1 .1 .1 .1 .1 .1 .1 .1 .1 .1 .1 .1 .1 .1 .1 .1 .1 .0) (c .before .before .before .before .before .before .spend-ticks .kept .1 .1 .1 .1 .1 .1 .1 .1 .1 .1 .1 .1 .1 .1 .1 .1 .1 .1 .1 .1 .1 .0)
+returns c = λ B held. curve-found held (c .before .before .before .before .before .before .tree-runs .ensures B held) (omega arith) (c .before .before .before .before .before .before .before .before .before .before .before .before .before .before .before .pre .1 .1 .0) (c .before .before .before .before .before .before .before .before .before .before .before .before .before .before .before .pre .1 .1 .1) (c .before .before .before .before .before .before .tree-runs .kept .1 .1 .1 .1 .1 .1 .1 .1 .1 .1 .1 .1 .1 .0) (c .before .before .before .before .before .before .tree-runs .kept .1 .1 .1 .1 .1 .1 .1 .1 .1 .1 .1 .1 .1 .1 .0)
 
 pub tree-curve-spec : {M : Type 1} → statement M
-tree-curve-spec = tie.close (tie.spec slice-aggregate-start start-requires list-saving-requires step-count-requires sub-spend-ticks spend-ticks-requires same-length same-length-2 same-length-3 returns)
+tree-curve-spec = tie.close (tie.spec tree-runs-requires same-length same-length-2 same-length-3 returns)
