@@ -14,6 +14,7 @@ pub mod MarkLaws
 pub mod SoughtLaws
 pub mod Held
 pub mod TakeLaws
-pub mod RoundLaws
+pub mod GoingLaws
+pub mod SweepLaws
 pub mod LayLaws
 pub mod FinishLaws

@@ -1,11 +1,20 @@
 -- The turns of a search for the least number with a property. Assumes nothing.
 use mathlib.Core.Path.{_≡_}
-use mathlib.Core.Bool.{Bool, true, false, false≢true, true≢false}
+use mathlib.Core.Bool.{Bool, true, false, not, false≢true, true≢false}
 use Prim.Native.Nat.{ℕ, _+_, _≤_, _<_}
 use native.Mathlib.Omega.{arith}
 use borrow.Author.Count.{below-more}
 use Rattle.lists.specs.Search.{Says}
 use Rattle.parts.specs.Sought.{Sought}
+
+-- an answer r, tested the other way round
+pub says-yes : (P : Type 0) (r : Bool) → Says P r → not r ≡ false → P
+says-yes P true s e = s
+says-yes P false s e = absurd (true≢false e)
+
+pub says-no : (P : Type 0) (r : Bool) → Says P r → not r ≡ true → ¬ P
+says-no P true s e = absurd (false≢true e)
+says-no P false s e = s
 
 -- no number below i has the property
 abbrev pub Passed : (ℕ → Type 0) → ℕ → Type 0

@@ -1,7 +1,8 @@
 -- Marks of gates: whether no slot, exactly one, or more than one ends at a gate. All gates are marked in one pass over the slots.
-use mathlib.Core.Bool.{Bool, true, false, _&&_}
+use mathlib.Core.Path.{_≡_}
+use mathlib.Core.Bool.{Bool, true, false, _&&_, cond}
 use mathlib.Core.List.{List}
-use Prim.Native.Nat.{ℕ, zero, suc}
+use Prim.Native.Nat.{ℕ, zero, suc, _+_, _-_, _≤_, _<_}
 use lib.Dec.{eqb}
 use lib.ListN.{getD, set}
 
@@ -22,3 +23,18 @@ marked lives ends (suc i) g = elim (ends-at lives ends g i) [ true ↦ bumped (m
 -- the marks when slot i is met as well
 unfoldable pub noted : List ℕ → List ℕ → ℕ → List ℕ → List ℕ
 noted lives ends i marks = elim (eqb (getD lives i 0) 1) [ true ↦ set marks (getD ends i 0) (bumped (getD marks (getD ends i 0) 0) i) | false ↦ marks ]
+
+-- slot i is the only one of k slots that is live and ends at g
+pub record OnlyAt (lives ends : List ℕ) (k g i : ℕ) : Type 0 where
+  pub slot : i < k
+  pub live : getD lives i 0 ≡ 1
+  pub end : getD ends i 0 ≡ g
+  pub only : (q : ℕ) → q < k → getD lives q 0 ≡ 1 → getD ends q 0 ≡ g → q ≡ i
+
+-- The mark of gate g is right if it names a slot: that slot is the only one there. A mark of 0 or 1 says nothing.
+pub record Names (lives ends : List ℕ) (k : ℕ) (marks : List ℕ) (g : ℕ) : Type 0 where
+  pub named : 2 ≤ getD marks g 0 → OnlyAt lives ends k g (getD marks g 0 - 2)
+
+-- the marks once slot j has become one with slot i: the mark of gate v names i if it named j
+unfoldable pub followed : ℕ → ℕ → ℕ → List ℕ → List ℕ
+followed v i j marks = cond (eqb (getD marks v 0) (j + 2)) (set marks v (i + 2)) marks

@@ -1,11 +1,11 @@
-// Searches: for a gate that can go, and for a slot between two gates.
+// Whether a gate can go, and the search for a slot between two gates.
 ghost use Prim.Native.Nat.{_≤_, _<_};
 ghost use lib.ListN.{length};
 ghost use Rattle.lists.specs.Search.{Says};
 ghost use Rattle.parts.specs.Sought.{Sought, CanGo, Leads};
 
 // Whether gate m can go, by the marks.
-fn can_go(ins: &[u32], outs: &[u32], m: usize, first: usize, last: usize) -> bool
+pub(crate) fn can_go(ins: &[u32], outs: &[u32], m: usize, first: usize, last: usize) -> bool
     requires { ⌜ m < length (now ins) ⌝ }
     requires { ⌜ m < length (now outs) ⌝ }
     ensures { λ r. ⌜ Says (CanGo (now (ins .entry)) (now (outs .entry)) first last m) r ⌝ }
@@ -23,22 +23,6 @@ fn can_go(ins: &[u32], outs: &[u32], m: usize, first: usize, last: usize) -> boo
         return false;
     }
     true
-}
-
-// The lowest of n gates that can go, or n.
-pub(crate) fn gate_to_go(ins: &[u32], outs: &[u32], n: usize, first: usize, last: usize) -> usize
-    requires { ⌜ n ≤ length (now ins) ⌝ }
-    requires { ⌜ n ≤ length (now outs) ⌝ }
-    ensures { λ r. ⌜ Sought (CanGo (now (ins .entry)) (now (outs .entry)) first last) n r ⌝ }
-{
-    let mut m = 0;
-    while m < n {
-        if can_go(ins, outs, m, first, last) {
-            return m;
-        }
-        m += 1;
-    }
-    n
 }
 
 // Whether slot i is live and leads from a to b.

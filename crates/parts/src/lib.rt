@@ -3,12 +3,12 @@ mod find;
 mod finish;
 mod lay;
 mod marks;
-mod rounds;
+mod sweeps;
 mod take;
 
 use finish::pick;
 use lay::lay;
-use rounds::reduce;
+use sweeps::reduce;
 ghost use Prim.Native.Nat.{_+_, _^_, _≤_};
 ghost use lib.ListN.{length};
 ghost use Rattle.model.specs.Block.{Block};

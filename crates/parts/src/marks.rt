@@ -2,7 +2,7 @@
 ghost use mathlib.Core.Path.{_≡_};
 ghost use Prim.Native.Nat.{ℕ, _+_, _-_, _^_, _≤_, _<_};
 ghost use lib.ListN.{length, getD};
-ghost use Rattle.parts.specs.Marks.{bumped, marked, noted};
+ghost use Rattle.parts.specs.Marks.{bumped, marked, noted, followed};
 
 // The mark of a gate when slot i is met there too.
 fn bump(old: u32, i: u32) -> u32
@@ -67,4 +67,15 @@ pub(crate) fn only_slot(marks: &[u32], m: usize) -> usize
     ensures { λ r. ⌜ r ≡ getD (now (marks .entry)) m 0 - 2 ⌝ }
 {
     marks[m] as usize - 2
+}
+
+// Slot j has become one with slot i: the mark of gate v names i if it named j.
+pub(crate) fn follow(marks: &mut [u32], v: usize, i: usize, j: usize)
+    requires { ⌜ v < length (now marks) ⌝ }
+    requires { ⌜ (i + 2 < 2 ^ 32) × (j + 2 < 2 ^ 32) ⌝ }
+    ensures { λ _. ⌜ now (marks .exit) ≡ followed v i j (now (marks .entry)) ⌝ }
+{
+    if marks[v] == (j + 2) as u32 {
+        marks[v] = (i + 2) as u32;
+    }
 }

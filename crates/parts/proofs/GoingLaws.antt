@@ -1,4 +1,4 @@
--- The marks choose a gate and its two slots exactly when it can go (`chosen-by-marks`, `marks-if-chosen`), and a gate that goes keeps what holds of the arrays (`went-on`). Assumes nothing.
+-- Marks that are right choose a gate and its two slots (`gate-chosen`); fresh marks let a gate go exactly when it can (`all-named`, `none-chosen`); and a gate that goes keeps what holds of the arrays (`went-on`), and so do sweeps. Assumes nothing.
 use mathlib.Core.Path.{_≡_, refl, sym, _∙_, ap, subst, subst₂}
 use mathlib.Core.Logic.{_≢_, _↔_}
 use mathlib.Core.Bool.{true}
@@ -13,10 +13,10 @@ use lib.Seq.{getD-set-same, getD-set-other}
 use Rattle.model.specs.Block.{Block}
 use Rattle.parts.specs.Slots.{OneIn, OneOut, Straight, live-count}
 use Rattle.parts.specs.Network.{Network}
-use Rattle.parts.specs.Marks.{ends-at}
-use Rattle.parts.specs.Sought.{Sought, CanGo, Leads}
+use Rattle.parts.specs.Marks.{ends-at, OnlyAt}
+use Rattle.parts.specs.Sought.{CanGo, Leads}
 use Rattle.parts.specs.Arrays.{Arrays, held, Room, Chosen, joined, taken-up, Went, by-joining, by-taking-up}
-use Rattle.parts.specs.Going.{Going, Sound, Ready, Round, rests, goes, Ended}
+use Rattle.parts.specs.Going.{Going, Sound, Ready, MarksFrom, Visited, stays, goes, Swept, Ended}
 use Rattle.parts.proofs.Gates.{part-ends}
 use Rattle.parts.proofs.Steps.{step-keeps}
 use Rattle.parts.proofs.Start.{loop-free}
@@ -30,13 +30,6 @@ ends-iff lives ends g i = (
   λ h. let (l, e) = and-iff (eqb (getD lives i 0) 1) (eqb (getD ends i 0) g) .0 h in (eqb-true (getD lives i 0) 1 l, eqb-true (getD ends i 0) g e),
   λ h. and-iff (eqb (getD lives i 0) 1) (eqb (getD ends i 0) g) .1 (eq-eqb (getD lives i 0) 1 (h .0), eq-eqb (getD ends i 0) g (h .1)),
 )
-
--- slot i is the only one of k slots that is live and ends at g
-record OnlyAt (lives ends : List ℕ) (k g i : ℕ) : Type 0 where
-  slot : i < k
-  live : getD lives i 0 ≡ 1
-  end : getD ends i 0 ≡ g
-  only : (q : ℕ) → q < k → getD lives q 0 ≡ 1 → getD ends q 0 ≡ g → q ≡ i
 
 -- A mark of 2 or more names the only slot at its gate.
 mark-names : (lives ends : List ℕ) (k g x : ℕ) → MarkSays (ends-at lives ends g) k x → 2 ≤ x → OnlyAt lives ends k g (x - 2)
@@ -69,36 +62,40 @@ chosen-of A x y =
       out-only = y .only;
     }
 
-module _ {n k a b : ℕ} {ins outs : List ℕ} (A : Arrays) (mi : MarkedBy (A .lives) (A .tos) n k ins) (mo : MarkedBy (A .lives) (A .froms) n k outs) where
-  pub chosen-by-marks : (m : ℕ) → m < n → CanGo ins outs a b m → Chosen k A m (getD ins m 0 - 2) (getD outs m 0 - 2)
-  chosen-by-marks m h g =
-      chosen-of A
-      (mark-names (A .lives) (A .tos) k m (getD ins m 0) (subst (MarkSays (ends-at (A .lives) (A .tos) m) k) (sym (mi m h)) (marked-says (A .lives) (A .tos) m k)) (g .one-in))
-      (mark-names (A .lives) (A .froms) k m (getD outs m 0) (subst (MarkSays (ends-at (A .lives) (A .froms) m) k) (sym (mo m h)) (marked-says (A .lives) (A .froms) m k)) (g .one-out))
+-- A gate that marks which are right let go, with the slots that they name.
+pub gate-chosen : {n k a b m i j : ℕ} {ins outs : List ℕ} {A : Arrays} → MarksFrom n k m A ins outs → m < n → CanGo ins outs a b m
+    → i ≡ getD ins m 0 - 2 → j ≡ getD outs m 0 - 2 → Chosen k A m i j
+gate-chosen {k = k} {m = m} {A = A} marks h g e f =
+    chosen-of A
+    (subst (OnlyAt (A .lives) (A .tos) k m) (sym e) (marks .ins-named m (omega arith) h .named (g .one-in)))
+    (subst (OnlyAt (A .lives) (A .froms) k m) (sym f) (marks .outs-named m (omega arith) h .named (g .one-out)))
 
-  pub marks-if-chosen : (m i j : ℕ) → m < n → m ≢ a → m ≢ b → Chosen k A m i j → CanGo ins outs a b m
-  marks-if-chosen m i j h na nb c =
+mark-says : (lives ends marks : List ℕ) (n k g : ℕ) → MarkedBy lives ends n k marks → g < n → MarkSays (ends-at lives ends g) k (getD marks g 0)
+mark-says lives ends marks n k g m h = subst (MarkSays (ends-at lives ends g) k) (sym (m g h)) (marked-says lives ends g k)
+
+-- Marks fresh from the slots.
+module _ (n k : ℕ) (ins outs : List ℕ) (A : Arrays) (mi : MarkedBy (A .lives) (A .tos) n k ins) (mo : MarkedBy (A .lives) (A .froms) n k outs) where
+  pub all-named : MarksFrom n k 0 A ins outs
+  all-named =
       record {
+        ins-named = λ g _ h. record { named = mark-names (A .lives) (A .tos) k g (getD ins g 0) (mark-says (A .lives) (A .tos) ins n k g mi h) };
+        outs-named = λ g _ h. record { named = mark-names (A .lives) (A .froms) k g (getD outs g 0) (mark-says (A .lives) (A .froms) outs n k g mo h) };
+      }
+
+  -- Where they let no gate go, none can.
+  pub none-chosen : {a b : ℕ} → ((g : ℕ) → g < n → ¬ (CanGo ins outs a b g)) → (m i j : ℕ) → m < n → m ≢ a → m ≢ b → Chosen k A m i j → ⊥
+  none-chosen none m i j h na nb c =
+      none m h
+      (record {
         not-first = na;
         not-last = nb;
         one-in =
-            only-marked (A .lives) (A .tos) k m i (getD ins m 0) (subst (MarkSays (ends-at (A .lives) (A .tos) m) k) (sym (mi m h)) (marked-says (A .lives) (A .tos) m k))
+            only-marked (A .lives) (A .tos) k m i (getD ins m 0) (mark-says (A .lives) (A .tos) ins n k m mi h)
             (record { slot = c .in-slot; live = c .in-live; end = c .in-to; only = c .in-only });
         one-out =
-            only-marked (A .lives) (A .froms) k m j (getD outs m 0) (subst (MarkSays (ends-at (A .lives) (A .froms) m) k) (sym (mo m h)) (marked-says (A .lives) (A .froms) m k))
+            only-marked (A .lives) (A .froms) k m j (getD outs m 0) (mark-says (A .lives) (A .froms) outs n k m mo h)
             (record { slot = c .out-slot; live = c .out-live; end = c .out-from; only = c .out-only });
-      }
-
-  -- The gate that the search finds, with the slots that its marks name.
-  pub gate-chosen : {m i j : ℕ} → Sought (CanGo ins outs a b) n m → (m ≡ n → ⊥) → i ≡ getD ins m 0 - 2 → j ≡ getD outs m 0 - 2 → Chosen k A m i j
-  gate-chosen {m} s d e f =
-      let w = s .within in
-      let h : m < n = omega arith in
-      subst₂ (Chosen k A m) (sym e) (sym f) (chosen-by-marks m h (s .holds h))
-
-  -- Where the search finds none, none can go.
-  pub none-chosen : {m : ℕ} → Sought (CanGo ins outs a b) n m → m ≡ n → (g i j : ℕ) → g < n → g ≢ a → g ≢ b → Chosen k A g i j → ⊥
-  none-chosen s e g i j h na nb c = s .none-below g (omega arith) (marks-if-chosen g i j h na nb c)
+      })
 
 joined-room : {k x : ℕ} {A : Arrays} (c m i j : ℕ) → Room k x A → Room k x (joined c m i j A)
 unfolding joined
@@ -179,11 +176,10 @@ module _ {N : Block} {n k c : ℕ} {A : Arrays} (net : Network N) (go : Going N 
   pub take-room : Room k (c + 2) A
   take-room = room-more 2 chosen-room
 
-  -- What a gate that goes leaves: the same of the arrays, with fewer slots live.
+  -- What a gate that goes leaves: the same of the arrays.
   pub record Onward (B : Arrays) (r : ℕ) : Type 0 where
     pub going : Going N n k r B
     pub ready : Ready n k r B
-    pub falls : live-count k (held k B) < live-count k (held k A)
 
   onward-joined : ((q : ℕ) → q < k → ¬ (Leads (A .lives) (A .froms) (A .tos) (getD (A .froms) i 0) (getD (A .tos) j 0) q)) → Onward (joined c m i j A) (c + 1)
   onward-joined none =
@@ -201,7 +197,6 @@ module _ {N : Block} {n k c : ℕ} {A : Arrays} (net : Network N) (go : Going N 
               to-below = λ q h. set-below (A .tos) i (getD (A .tos) j 0) n q (omega (arith, rd .room .to-room, ch .in-slot)) (rd .to-below j (ch .out-slot)) (rd .to-below q h);
               budget = omega (arith, fall, rd .budget);
             };
-        falls = fall;
       }
     where
       fall : live-count k (held k (joined c m i j A)) < live-count k (held k A)
@@ -223,7 +218,6 @@ module _ {N : Block} {n k c : ℕ} {A : Arrays} (net : Network N) (go : Going N 
               to-below = rd .to-below;
               budget = omega (arith, fall, rd .budget);
             };
-        falls = omega (arith, fall);
       }
     where
       fall : live-count k (held k (taken-up c m i j l A)) + 2 ≤ live-count k (held k A)
@@ -233,35 +227,38 @@ module _ {N : Block} {n k c : ℕ} {A : Arrays} (net : Network N) (go : Going N 
   went-on (by-joining none e f) = subst₂ Onward (sym e) (sym f) (onward-joined none)
   went-on (by-taking-up l inside ld e f) = subst₂ Onward (sym e) (sym f) (onward-taken-up l inside ld)
 
--- A round keeps what holds of the arrays.
-round-on : {N : Block} {n k a b c r : ℕ} {A B : Arrays} → Network N → Going N n k c A → Ready n k c A → Round n k a b c A B r → Going N n k r B × Ready n k r B
-round-on {N} {n} {k} net go rd (rests none e f) = (subst₂ (Going N n k) (sym f) (sym e) go, subst₂ (Ready n k) (sym f) (sym e) rd)
-round-on net go rd (goes m i j ch w g) = let o = went-on net go rd ch w in (o .going, o .ready)
+-- A visit keeps what holds of the arrays.
+visited-on : {N : Block} {n k a b c m r : ℕ} {ins outs ins′ : List ℕ} {A B : Arrays} → Network N → Going N n k c A → Ready n k c A
+    → Visited n k a b c m ins outs A B ins′ r → Going N n k r B × Ready n k r B
+visited-on {N} {n} {k} net go rd (stays d e x f) = (subst₂ (Going N n k) (sym f) (sym e) go, subst₂ (Ready n k) (sym f) (sym e) rd)
+visited-on net go rd (goes i j ch w marks) = let o = went-on net go rd ch w in (o .going, o .ready)
 
--- The rounds so far, from the arrays A to the arrays B.
-pub record Onwards (n k c : ℕ) (A B : Arrays) : Type 0 where
-  pub ready : Ready n k c B
-  pub keeps : (N : Block) → Network N → Going N n k k A → Going N n k c B
+-- From the arrays A with c nodes to the arrays B with d nodes, what holds of a moment of the reduction is kept.
+pub record Onwards (n k c d : ℕ) (A B : Arrays) : Type 0 where
+  pub ready : Ready n k d B
+  pub keeps : (N : Block) → Network N → Going N n k c A → Going N n k d B
 
-pub onwards-start : {n k : ℕ} {A : Arrays} → Ready n k k A → Onwards n k k A A
+pub onwards-start : {n k c : ℕ} {A : Arrays} → Ready n k c A → Onwards n k c c A A
 onwards-start rd = record { ready = rd; keeps = λ N net go. go }
 
-pub onwards-sound : {n k c : ℕ} {A B : Arrays} → Sound n k k A → Onwards n k c A B → Sound n k c B
+pub onwards-sound : {n k c d : ℕ} {A B : Arrays} → Sound n k c A → Onwards n k c d A B → Sound n k d B
 onwards-sound s o = record { block = s .block; network = s .network; going = o .keeps (s .block) (s .network) (s .going) }
 
-pub onwards-more : {n k a b c r : ℕ} {A B C : Arrays} → Sound n k k A → Onwards n k c A B → Round n k a b c B C r → Onwards n k r A C
+pub onwards-visit : {n k a b c d m r : ℕ} {ins outs ins′ : List ℕ} {A B C : Arrays} → Sound n k c A → Onwards n k c d A B
+    → Visited n k a b d m ins outs B C ins′ r → Onwards n k c r A C
 unfolding onwards-sound
-onwards-more s o w =
+onwards-visit s o w =
     record {
-      ready = round-on (s .network) (onwards-sound s o .going) (o .ready) w .1;
-      keeps = λ N net go. round-on net (o .keeps N net go) (o .ready) w .0;
+      ready = visited-on (s .network) (onwards-sound s o .going) (o .ready) w .1;
+      keeps = λ N net go. visited-on net (o .keeps N net go) (o .ready) w .0;
     }
 
--- A round that does not rest leaves fewer slots live.
-pub round-falls : {n k a b c r : ℕ} {A B C : Arrays} → Sound n k k A → Onwards n k c A B → Round n k a b c B C r → (r ≡ c → ⊥) → live-count k (held k C) < live-count k (held k B)
-unfolding onwards-sound
-round-falls s o (rests none e f) d = absurd (d f)
-round-falls s o (goes m i j ch w g) d = went-on (s .network) (onwards-sound s o .going) (o .ready) ch w .falls
+pub onwards-sweep : {n k a b c d r : ℕ} {A B C : Arrays} → Onwards n k c d A B → Swept n k a b d B C r → Onwards n k c r A C
+onwards-sweep o w = record { ready = w .ready; keeps = λ N net go. w .stands N net (o .keeps N net go) }
+
+-- A sweep that takes a gate away leaves room for fewer nodes.
+pub sweep-falls : {n k a b c r : ℕ} {A B : Arrays} → Swept n k a b c A B r → (r ≡ c → ⊥) → k + k - r < k + k - c
+sweep-falls {c = c} {r = r} w d = let l : c < r = omega (arith, w .grows) in omega (arith, w .ready .budget)
 
 one-chosen : {k m : ℕ} (A : Arrays) (x : OneIn (held k A) m) (y : OneOut (held k A) m) → Chosen k A m (x .value) (y .value)
 one-chosen {k} A x y =
@@ -278,15 +275,14 @@ one-chosen {k} A x y =
       out-only = λ q l a b. y .alone q (held-alive k A q l a, held-ends k A q l .0 ∙ b);
     }
 
--- A round that rests is the end.
-pub round-ends : {n k a b c r : ℕ} {A B C : Arrays} → Onwards n k c A B → Round n k a b c B C r → r ≡ c → Ended n k a b A C c
-round-ends {n} {k} {a} {b} {c} {A = A} {B = B} o (rests none e f) g =
-    subst (λ C. Ended n k a b A C c) (sym e)
+-- A sweep that takes no gate away is the end.
+pub sweep-ends : {n k a b c r : ℕ} {A B C : Arrays} → Onwards n k k c A B → Swept n k a b c B C r → r ≡ c → Ended n k a b A C c
+sweep-ends {n} {k} {a} {b} {A = A} {C = C} o w e =
+    subst (Ended n k a b A C) e
     (record {
-      ready = o .ready;
+      ready = w .ready;
       stands =
           λ N net go.
-          let h = o .keeps N net go in
-          (h, λ m d p x y. none m (x .value) (y .value) (subst (λ z. m < z) (h .gates) (one-in-below net (h .reducing) x)) d p (one-chosen B x y));
+          let h = w .stands N net (o .keeps N net go) in
+          (h, λ m d p x y. w .rests e m (x .value) (y .value) (subst (λ z. m < z) (h .gates) (one-in-below net (h .reducing) x)) d p (one-chosen C x y));
     })
-round-ends o (goes m i j ch w h) g = absurd (omega arith)
