@@ -1,4 +1,3 @@
-pub mod Cases
 pub mod Ties
 pub mod Best
 pub mod Curve
@@ -21,4 +20,3 @@ pub mod Place
 pub mod Stored
 pub mod Limited
 pub mod Encoded
-pub mod Exactly

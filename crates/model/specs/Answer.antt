@@ -10,8 +10,6 @@ use Rattle.lists.specs.Over.{build, over}
 use Rattle.lists.specs.Search.{Lowest}
 use Rattle.model.specs.declared.Refusal.{Refusal}
 use Rattle.model.specs.declared.Refusal.the-variants.{Short, Tag, Length, Range, Drops, Wire, Excess, Loop, Ends, Room, NotSeriesParallel, Late, Widths, PathLate}
-use Rattle.model.specs.declared.Field.{Field}
-use Rattle.model.specs.declared.Field.the-variants.{NoHeader, NoBody, Whole}
 use Rattle.model.specs.declared.SlacksAnswer as Slacks
 use Rattle.model.specs.declared.CurveAnswer as Curve
 use Rattle.model.specs.declared.BestAnswer as Best
@@ -54,12 +52,6 @@ refusal-answer NotSeriesParallel = refusal 11 0
 refusal-answer Late = refusal 12 0
 refusal-answer (Widths g) = refusal 13 g
 refusal-answer PathLate = refusal 14 0
-
--- a field at offset o: whole with its tag and the ends of its body, or refusal 1 at the field's offset
-abbrev pub field-answer : ℕ → Field → Answer
-field-answer o NoHeader = refusal 1 o
-field-answer o (NoBody tag len) = refusal 1 o
-field-answer o (Whole tag a b) = accepted (tag ∷ a ∷ b ∷ [])
 
 -- slacks: how many were written
 abbrev pub slacks-answer : Slacks.SlacksAnswer → Answer

@@ -10,7 +10,7 @@ use Rattle.model.specs.Limits.{max-gates, max-bytes}
 use Rattle.model.specs.Block.{Block, gate, gate-count}
 use Rattle.model.specs.Gain.{saving}
 use Rattle.model.specs.InTime.{no-increase}
-use Rattle.model.specs.Slack.{slack, start, spare}
+use Rattle.model.specs.Slack as time
 use Rattle.model.specs.Refusal.{WellFormed}
 use Rattle.model.specs.Answer.{accepted, refusal, AnswersBest}
 
@@ -60,25 +60,33 @@ blank = 32 ∷ []
 abbrev pub line-end : List ℕ
 line-end = 10 ∷ []
 
--- "The first three lines give the counts of gates and wires, start and spare, and the saving."
-unfoldable pub head-lines : Block → List ℕ → List ℕ
-head-lines B x =
-    word-gates ++ digits (gate-count B) ++ blank ++ word-wires ++ digits (length (B .wires)) ++ line-end
-    ++ word-start ++ digits (start B) ++ blank ++ word-spare ++ signed (spare B) ++ line-end
-    ++ word-saving ++ digits (saving B x) ++ line-end
+-- "The first three lines give the counts of gates and wires, start and spare, and the saving": the text of these numbers.
+unfoldable pub head-text : ℕ → ℕ → ℕ → ℤ → ℕ → List ℕ
+head-text gates wires start spare saved =
+    word-gates ++ digits gates ++ blank ++ word-wires ++ digits wires ++ line-end
+    ++ word-start ++ digits start ++ blank ++ word-spare ++ signed spare ++ line-end
+    ++ word-saving ++ digits saved ++ line-end
 
--- "Each gate line is number, drawn delay, increase, slack before increases."
-unfoldable pub gate-line : Block → List ℕ → ℕ → List ℕ
-gate-line B x g =
-    digits g ++ blank ++ digits (gate B g .delay) ++ blank ++ digits (getD x g 0) ++ blank ++ signed (slack B g) ++ line-end
+-- "Each gate line is number, drawn delay, increase, slack before increases": the text of these numbers.
+unfoldable pub gate-text : ℕ → ℕ → ℕ → ℤ → List ℕ
+gate-text g delay increase slack =
+    digits g ++ blank ++ digits delay ++ blank ++ digits increase ++ blank ++ signed slack ++ line-end
 
--- the lines of the first n gates, in order
-unfoldable pub gate-lines : Block → List ℕ → ℕ → List ℕ
-gate-lines B x zero = []
-gate-lines B x (suc n) = gate-lines B x n ++ gate-line B x n
+-- the lines of the first n gates, in order, where `line g` is that of gate g
+unfoldable pub gate-texts : (ℕ → List ℕ) → ℕ → List ℕ
+gate-texts line zero = []
+gate-texts line (suc n) = gate-texts line n ++ line n
 
+-- the head of the printout of block B with the increases x, and the line of its gate g
+abbrev pub head-lines : Block → List ℕ → List ℕ
+head-lines B x = head-text (gate-count B) (length (B .wires)) (time.start B) (time.spare B) (saving B x)
+
+abbrev pub gate-line : Block → List ℕ → ℕ → List ℕ
+gate-line B x g = gate-text g (gate B g .delay) (getD x g 0) (time.slack B g)
+
+-- the whole printout of block B with the increases x
 unfoldable pub block-lines : Block → List ℕ → List ℕ
-block-lines B x = head-lines B x ++ gate-lines B x (gate-count B)
+block-lines B x = head-lines B x ++ gate-texts (gate-line B x) (gate-count B)
 
 -- "A refusal is one line: `refused 12 0`, number then place."
 unfoldable pub refusal-line : ℕ → ℕ → List ℕ

@@ -15,6 +15,9 @@ pub const MAX_PAIRS: usize = MAX_GATES * MAX_STEPS;
 // Pairs of gates.
 pub const GATES_SQUARED: usize = MAX_GATES * MAX_GATES;
 
+// Bytes of its input that the printing program reads.
+pub const MAX_BYTES: usize = 4096;
+
 // A number for each gate.
 pub type GateNumbers = [u32; MAX_GATES];
 

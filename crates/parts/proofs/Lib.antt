@@ -9,7 +9,6 @@ pub mod Nodes
 pub mod Search
 pub mod Reduce
 pub mod Ascending
-pub mod Examples
 pub mod MarkLaws
 pub mod SoughtLaws
 pub mod Held
