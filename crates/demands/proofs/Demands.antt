@@ -1,0 +1,161 @@
+-- The buyer's three demands, as theorems about what the calls promise: `AnswersSlacks`, `AnswersCurve`, `AnswersBest`, `AnswersJudge` and `AnswersLayout` of model say what each call answers and what the lent slices hold afterwards, for any file and any slices, and allow one outcome only (`answers-..-unique` of model); each is the promise of the call of its name. That no call overflows or reads past an end is what the checker asks of every function.
+-- `WellFormed file B`: the file holds the block B, and none of the refusals 1 to 9 fits it. It and the lengths of the lent slices are all that a theorem asks for.
+-- Assumes nothing.
+use mathlib.Core.Path.{_≡_}
+use mathlib.Core.Logic.{_↔_, _⊎_, inl, inr, ⊎-elim}
+use mathlib.Core.List.{List, [], _∷_}
+use Prim.Native.Nat.{ℕ, _+_, _*_, _≤_, _<_}
+use lib.IntN.{ℤ, pos, _-ℤ_}
+use lib.ListN.{length, take, drop}
+use Rattle.lists.specs.Over.{build, over}
+use Rattle.lists.proofs.Compare.{le-or-lt}
+use Rattle.model.specs.Limits.{max-pairs}
+use Rattle.model.specs.Block.{Block, gate-count, first, last}
+use Rattle.model.specs.Path.{Longest}
+use Rattle.model.specs.Gain.{saving}
+use Rattle.model.specs.InTime.{drawn, InTime, IsStart}
+use Rattle.model.specs.Best.{Best}
+use Rattle.model.specs.Part.{Shape, Whole, SeriesParallel, lone, built}
+use Rattle.model.specs.Slack.{source-delay, required-time, slack, start}
+use Rattle.model.specs.Refusal.{WellFormed, IllFormed}
+use Rattle.model.specs.Layout.{increase-bytes, list-bytes, GivesLayout, AnswersLayout}
+use Rattle.model.specs.Answer.{Outcome, Slices, accepted, refusal, Judged, ill-formed, well-formed, GivesCurve, GivesBest, AnswersSlacks, AnswersCurve, AnswersBest, AnswersJudge}
+use Rattle.model.proofs.Slack as paths
+use Rattle.model.proofs.Answer.{ill-unique}
+use Rattle.demands.proofs.TableLaws as tables
+use Rattle.demands.proofs.TableLaws.{ill-formed-number, passed, decided, roomy, eleven-line}
+use Rattle.demands.proofs.CallLaws.{both, best-in-front, best-bytes, some-gate, along, late-or-not, in-time, slacks-lines, curve-lines, best-lines, judge-lines, layout-lines, best-accepts, layout-accepts, curve-not-eleven}
+use Rattle.demands.proofs.Judging.{accepted-in-time, accepted-saves}
+
+-- the block is one gate without a wire
+abbrev pub Lone : Block → Type 0
+Lone B = (gate-count B ≡ 1) × (B .wires ≡ [])
+
+-- "the block is no lone gate and no building up from wires in series and in parallel gives the block"
+abbrev pub NotBuilt : Block → Type 0
+NotBuilt B = (¬ (Lone B)) × ((P : Shape) → ¬ (Whole B P))
+
+not-series-parallel : {B : Block} → (¬ (SeriesParallel B)) ↔ NotBuilt B
+not-series-parallel {B} = (λ none. (λ l. none (lone (l .0) (l .1)), λ P w. none (built P w)), back)
+  where
+    back : NotBuilt B → ¬ (SeriesParallel B)
+    back none (lone one no-wire) = none .0 (one, no-wire)
+    back none (built P whole) = none .1 P whole
+
+-- DEMAND 1, its second sentence. "Every other file .. gets one numbered refusal with its place, and the lent memory is unchanged": of every call, since each begins with the refusals 1 to 9.
+pub other-file : {S : Type 0} {file : List ℕ} {lent : S} {further : Block → Outcome S → Type 0} {o : Outcome S} → ((B : Block) → ¬ (WellFormed file B))
+    → Judged file lent further o
+    → (k : ℕ) × (p : ℕ) × IllFormed file k p × (1 ≤ k) × (k ≤ 9) × (o ≡ record { answer = refusal k p; memory = lent })
+other-file {file = file} none (ill-formed k p i e) = let range = ill-formed-number file i in (k, p, i, range .0, range .1, e)
+other-file none (well-formed B w f) = absurd (none B w)
+
+pub one-refusal : {file : List ℕ} {k p l q : ℕ} → IllFormed file k p → IllFormed file l q → (k ≡ l) × (p ≡ q)
+one-refusal = ill-unique
+
+module _ {file : List ℕ} {B : Block} (well : WellFormed file B) where
+  -- DEMAND 1, its first sentence. "Every well-formed block file gets its slacks, ..
+  pub slacks-given : {lent : List ℤ} {o : Outcome (List ℤ)} → AnswersSlacks file lent o → gate-count B ≤ length lent
+      → o ≡ record { answer = accepted (gate-count B ∷ []); memory = over (build (gate-count B) (slack B)) lent }
+  slacks-given a long = roomy long (slacks-lines well a)
+
+  -- .. when series-parallel its curve, ..
+  pub curve-given : {lent : Slices} {o : Outcome Slices} → AnswersCurve file lent o → max-pairs ≤ length (lent .for-widths) → max-pairs ≤ length (lent .for-gains)
+      → SeriesParallel B
+      → GivesCurve B lent o
+  curve-given a wide long sp = passed (λ p w. w .1 sp) (roomy long (roomy wide (curve-lines well a)))
+
+  -- .. and when also in time its increases."
+  pub increases-given : {lent y : List ℕ} {o : Outcome (List ℕ)} → AnswersBest file lent o → gate-count B ≤ length lent → SeriesParallel B → InTime B y
+      → GivesBest B lent o
+  increases-given a long sp ok = in-time well sp ok (roomy long (best-lines well a))
+
+  pub layout-given : {lent y : List ℕ} {o : Outcome (List ℕ)} → AnswersLayout file lent o → increase-bytes * gate-count B ≤ length lent → SeriesParallel B → InTime B y
+      → GivesLayout B lent o
+  layout-given a long sp ok = in-time well sp ok (roomy long (layout-lines well a))
+
+  -- "Every other .. short buffer": 10 with the elements needed.
+  pub slacks-short : {lent : List ℤ} {o : Outcome (List ℤ)} → AnswersSlacks file lent o → length lent < gate-count B
+      → o ≡ record { answer = refusal 10 (gate-count B); memory = lent }
+  slacks-short a short = decided short (slacks-lines well a)
+
+  pub increases-short : {lent : List ℕ} {o : Outcome (List ℕ)} → AnswersBest file lent o → length lent < gate-count B
+      → o ≡ record { answer = refusal 10 (gate-count B); memory = lent }
+  increases-short a short = decided short (best-lines well a)
+
+  pub judge-short : {lent : List ℕ} {o : Outcome (List ℕ)} → AnswersJudge file lent o → length lent < gate-count B
+      → o ≡ record { answer = refusal 10 (gate-count B); memory = lent }
+  judge-short a short = decided short (judge-lines well a)
+
+  pub layout-short : {lent : List ℕ} {o : Outcome (List ℕ)} → AnswersLayout file lent o → length lent < increase-bytes * gate-count B
+      → o ≡ record { answer = refusal 10 (increase-bytes * gate-count B); memory = lent }
+  layout-short a short = decided short (layout-lines well a)
+
+  pub curve-short : {lent : Slices} {o : Outcome Slices} → AnswersCurve file lent o → (length (lent .for-widths) < max-pairs) ⊎ (length (lent .for-gains) < max-pairs)
+      → o ≡ record { answer = refusal 10 max-pairs; memory = lent }
+  curve-short a (inl short) = decided short (curve-lines well a)
+  curve-short {lent} {o} a (inr short) =
+      ⊎-elim (λ (wide : max-pairs ≤ length (lent .for-widths)). decided short (roomy wide (curve-lines well a))) (λ (narrow : length (lent .for-widths) < max-pairs). decided narrow (curve-lines well a))
+      (le-or-lt max-pairs (length (lent .for-widths)))
+
+  -- DEMAND 2. "Slacks follow Girard and others, section 2, with our deadline": source delay, required time and slack are what the paths say, and so is start.
+  pub source-delay-is : (g : ℕ) → g < gate-count B
+      → (t : ℕ) × Longest (B .wires) (drawn B) (first B) g t × (source-delay B g ≡ B .arrival + t)
+  source-delay-is = paths.source-is B (well .network) (along well) (some-gate well)
+
+  pub required-time-is : (g : ℕ) → g < gate-count B
+      → (u : ℕ) × Longest (B .wires) (drawn B) g (last B) (drawn B g + u) × (required-time B g ≡ pos (B .deadline) -ℤ pos u)
+  required-time-is = paths.required-is B (well .network) (along well) (some-gate well)
+
+  pub slack-is : (g : ℕ) → g < gate-count B
+      → (t : ℕ)
+      × (u : ℕ)
+      × Longest (B .wires) (drawn B) (first B) g t
+      × Longest (B .wires) (drawn B) g (last B) (drawn B g + u)
+      × (slack B g ≡ pos (B .deadline) -ℤ pos (B .arrival + t + u))
+  slack-is = paths.slack-is B (well .network) (along well) (some-gate well)
+
+  pub start-is : IsStart B (start B)
+  start-is = paths.start-is B (well .network) (along well) (some-gate well)
+
+  -- "A proposed list of increases is accepted if and only if each lies within its gate's steps and every path is in time, ..
+  pub accepted-exactly : {lent : List ℕ} {o : Outcome (List ℕ)} → AnswersJudge file lent o → gate-count B ≤ length lent
+      → (o .answer .number ≡ 0) ↔ InTime B (take (gate-count B) lent)
+  accepted-exactly {lent} a long = accepted-in-time B lent long (roomy long (judge-lines well a))
+
+  -- .. and the saving stated .. is the sum of the list's gains." (For a returned list it is so by `increases-given`.)
+  pub saving-stated : {lent : List ℕ} {o : Outcome (List ℕ)} → AnswersJudge file lent o → gate-count B ≤ length lent → o .answer .number ≡ 0
+      → o ≡ record { answer = accepted (saving B (take (gate-count B) lent) ∷ []); memory = lent }
+  saving-stated {lent} a long is-accepted = accepted-saves B lent is-accepted (roomy long (judge-lines well a))
+
+  -- DEMAND 3. "If its block is series-parallel and some list .. brings every path in time, the list of best increases returned is such a list, and every other such list saves less, or saves as much and comes later in the order of ties": that is `Best`.
+  pub best-returned : {lent y : List ℕ} {o : Outcome (List ℕ)} → AnswersBest file lent o → gate-count B ≤ length lent → SeriesParallel B → InTime B y
+      → Best B (take (gate-count B) (o .memory))
+      × (o .answer ≡ accepted (saving B (take (gate-count B) (o .memory)) ∷ gate-count B ∷ []))
+      × (drop (gate-count B) (o .memory) ≡ drop (gate-count B) lent)
+  best-returned a long sp ok = best-in-front (increases-given a long sp ok)
+
+  -- "The layout editor's bytes hold that same list" (document 01): four bytes an increase.
+  pub best-laid-out : {lent y : List ℕ} {o : Outcome (List ℕ)} → AnswersLayout file lent o → increase-bytes * gate-count B ≤ length lent → SeriesParallel B → InTime B y
+      → (x : List ℕ) × Best B x × (o ≡ record { answer = accepted (saving B x ∷ gate-count B ∷ []); memory = over (list-bytes x) lent })
+  best-laid-out a long sp ok = best-bytes (layout-given a long sp ok)
+
+  -- "Not series-parallel" is returned exactly when the block is no lone gate and no building up gives it, ..
+  pub eleven-exactly : {lent : List ℕ} {o : Outcome (List ℕ)} → AnswersBest file lent o → gate-count B ≤ length lent → (o .answer ≡ refusal 11 0) ↔ NotBuilt B
+  eleven-exactly a long = both (tables.eleven-exactly best-accepts (roomy long (best-lines well a))) not-series-parallel
+
+  pub layout-eleven-exactly : {lent : List ℕ} {o : Outcome (List ℕ)} → AnswersLayout file lent o → increase-bytes * gate-count B ≤ length lent
+      → (o .answer ≡ refusal 11 0) ↔ NotBuilt B
+  layout-eleven-exactly a long = both (tables.eleven-exactly layout-accepts (roomy long (layout-lines well a))) not-series-parallel
+
+  pub curve-eleven-exactly : {lent : Slices} {o : Outcome Slices} → AnswersCurve file lent o → max-pairs ≤ length (lent .for-widths) → max-pairs ≤ length (lent .for-gains)
+      → (o .answer ≡ refusal 11 0) ↔ NotBuilt B
+  curve-eleven-exactly a wide long = both (eleven-line curve-not-eleven (roomy long (roomy wide (curve-lines well a)))) not-series-parallel
+
+  -- .. and "late" exactly when it is series-parallel and no list is in time.
+  pub twelve-exactly : {lent : List ℕ} {o : Outcome (List ℕ)} → AnswersBest file lent o → gate-count B ≤ length lent
+      → (o .answer ≡ refusal 12 0) ↔ (SeriesParallel B × ((x : List ℕ) → ¬ (InTime B x)))
+  twelve-exactly a long = both (tables.twelve-exactly best-accepts (roomy long (best-lines well a))) (late-or-not well)
+
+  pub layout-twelve-exactly : {lent : List ℕ} {o : Outcome (List ℕ)} → AnswersLayout file lent o → increase-bytes * gate-count B ≤ length lent
+      → (o .answer ≡ refusal 12 0) ↔ (SeriesParallel B × ((x : List ℕ) → ¬ (InTime B x)))
+  layout-twelve-exactly a long = both (tables.twelve-exactly layout-accepts (roomy long (layout-lines well a))) (late-or-not well)

@@ -1,0 +1,4 @@
+pub mod Demands
+pub mod Judging
+pub mod CallLaws
+pub mod TableLaws

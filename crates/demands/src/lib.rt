@@ -1,0 +1,1 @@
+// The demands are theorems about definitions: no code. They stand in proofs/Demands.antt.
