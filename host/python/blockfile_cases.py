@@ -6,6 +6,8 @@ are read (2), and two changes, each a place (2) and the byte to put there (1); a
 stdout: for each case what document 01 says of the changed file, by the reader below, which shares nothing with the crate."""
 import os
 
+from small_files import SMALL_FILES
+
 NOWHERE = 65535
 LENGTHS = {1: {8}, 2: {4 + 4 * k for k in range(9)}, 3: {2}}
 
@@ -133,6 +135,26 @@ case(whole, wire + 4, 17)
 case(whole, wire + 3, 16, wire + 4, 17)
 case(whole, wire + 3, 255, wire + 4, 255)
 case(whole + 1, last + 3, 0, last + 4, 0)
+
+# as the small files with faults, each as near to it as two changes come: tag before length, length before short body, short
+# body before a number's range, no gate, p 257 of one gate, one gate and no wire, no field behind one gate's block field, a wire
+# where a gate is due, 9 steps with no body, one byte behind a wire
+case(3, 0, 2, 2, 9)
+case(3, 2, 9)
+case(4, 3, 2)
+case(first, 4, 0)
+case(first, 4, 1, 10, 1)
+case(second, 4, 1)
+case(first, 4, 1)
+case(first + 5, first, 3, first + 2, 2)
+case(first + 3, first + 2, 40)
+case(wire_2 + 1)
+
+for file, right in SMALL_FILES:
+    try:
+        assert read(list(file))[1] == right, file
+    except Refused as refused:
+        assert refused.args == right, file
 
 given = two(len(block)) + block
 said = ""

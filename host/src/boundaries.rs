@@ -2,7 +2,7 @@
 
 use crate::block::{encode, Block, Gate, Step, Wire};
 use crate::generate::{largest_gain, most_pairs, most_wires};
-use crate::worked::diamond;
+use crate::worked::{diamond, paper_chain};
 
 /// A file, and the number and place of its refusal, or `None` where the best increases are given.
 pub struct Boundary {
@@ -206,6 +206,8 @@ fn networks() -> Vec<Boundary> {
         refused("the bridge, late", late(block(vec![gate(&[]); 4], &bridge)), 11, 0),
         accepted("spare 0", encode(&diamond(7))),
         refused("spare -1", encode(&diamond(6)), 12, 0),
+        accepted("spare for every tick", encode(&paper_chain(26))),
+        accepted("spare for one tick more than there are", encode(&paper_chain(27))),
         refused("deadline 0", encode(&diamond(0)), 12, 0),
         refused("arrival after deadline", encode(&Block { arrival: 11, ..diamond(10) }), 12, 0),
         accepted("arrival that leaves spare 0", encode(&Block { arrival: 3, ..diamond(10) })),

@@ -18,6 +18,19 @@ pub struct Curve {
     pub pairs: Vec<(u64, u64)>,
 }
 
+impl Curve {
+    /// The saving with so many spare ticks, counted off from the front; those beyond the end earn 0.
+    pub fn counted_off(&self, spare: u64) -> u64 {
+        let mut left = spare;
+        let mut saving = self.at_start;
+        for &(width, gain) in &self.pairs {
+            saving += left.min(width) * gain;
+            left -= left.min(width);
+        }
+        saving
+    }
+}
+
 /// How many lists of increases lie within the gates' widths.
 pub fn count_of_lists(block: &Block) -> u64 {
     block.gates.iter().fold(1u64, |count, g| count.saturating_mul(u64::from(g.widths()) + 1))
