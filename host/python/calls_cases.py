@@ -1,5 +1,6 @@
 #!/usr/bin/env python3
-"""Writes stdin and stdout of crates/calls_cases.
+"""calls_cases.py DIR: writes DIR/stdin and DIR/stdout of the program calls_cases.
+calls_cases.py --check DIR: says whether they still are what it would write.
 
 stdin: records, each the length of a block file (2 bytes, high byte first), four increases of 4 bytes each, and the file's bytes.
 stdout: for each record what document 01 says of the slacks, to six lent elements and to three, and of the judging of the four
@@ -9,6 +10,7 @@ from pathlib import Path
 
 from second_opinion import Block, Refused
 from small_files import SMALL_FILES
+from stored import store
 
 ROOT = Path(__file__).resolve().parents[2]
 UNWRITTEN = 77777
@@ -110,17 +112,15 @@ def check_by_hand():
 
 def main():
     check_by_hand()
-    folder = ROOT / "crates" / "calls_cases"
-    given, said = b"", ""
+    given, said, count = b"", "", 0
     for file, increases in records():
         given += two(len(file)) + b"".join(x.to_bytes(4, "big") for x in increases) + file
         block = answered(lambda: Block(file))
         lines = [slacks_line(block, 6), slacks_line(block, 3), judge_line(block, increases), judge_line(block, increases[:3])]
         said += "".join(line + "\n" for line in lines)
-    assert len(given) <= 4096
-    (folder / "stdin").write_bytes(given)
-    (folder / "stdout").write_text(said)
+        count += 1
+    store(given, said)
+    print("calls_cases: %d records" % count)
 
 
-if __name__ == "__main__":
-    main()
+main()
