@@ -4,7 +4,7 @@ second_opinion.py DIR reads DIR/stdin and DIR/stdout as host/CASES.md describes 
 and judging are checked for every case; the best list and the curve of small blocks by trying everything. Of a larger block's
 curve are checked start, count, widths, falling gains, its length and what all of it earns, which no search is needed for; of
 its best list that it is in time, saves what is stated and what the curve says, and slows no gate that gains nothing.
-At the end mistakes are put into the lines of a larger block; each must be noticed.
+At the end mistakes are put into the lines of some larger blocks; each must be noticed.
 """
 
 import itertools
@@ -14,7 +14,7 @@ from pathlib import Path
 
 MOST_LISTS = 2_000
 MOST_WIRES = 8
-MOST_MISTAKEN = 10
+BLOCKS_MISTAKEN = 10
 MOST_PAIRS = 512
 LARGEST_GAIN = 63 * 32_768 * 1_000
 ALWAYS = ["case", "slacks", "curve", "best", "judge"]
@@ -436,7 +436,9 @@ def check_all(data, text):
             tried += 1
         elif case.has_to_choose():
             larger.append(stored)
-    noticed = sum(mistakes_noticed(*stored) for stored in larger[-MOST_MISTAKEN:])
+    if len(larger) < BLOCKS_MISTAKEN:
+        raise Wrong("there are too few larger blocks to put mistakes into")
+    noticed = sum(mistakes_noticed(*stored) for stored in larger[-BLOCKS_MISTAKEN:])
     return "%d cases, %d of them by trying every list; %d mistakes put in were noticed" % (count, tried, noticed)
 
 

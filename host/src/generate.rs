@@ -204,7 +204,7 @@ fn gate(random: &mut Random, values: Values, most_steps: usize) -> Gate {
     }
 }
 
-/// Sets arrival and deadline: spare 0, -1, within the widths, at their end or beyond, or the arrival after the deadline.
+/// Sets arrival and deadline: spare 0, -1, within the widths, at their end or beyond; or a deadline that heeds no path.
 pub fn set_times(random: &mut Random, block: &mut Block) {
     block.arrival = random.pick(&[0, 0, 1, 300, 1_000]);
     let most_time = i64::from(MAX_TIME);

@@ -1,4 +1,5 @@
-//! The blocks that document 01 tries by hand, with the answers that it gives for them. None was computed here.
+//! The blocks that document 01 tries by hand, with the answers that it gives for them. Numbers that it leaves open (some
+//! savings, some delays) are worked out by hand; no answer comes from a program.
 
 use crate::block::{encode, Block};
 use crate::text;

@@ -39,7 +39,7 @@ pub fn check_paths(random: &mut Random) -> usize {
 pub fn check_parts(random: &mut Random) -> (usize, usize) {
     let (mut yes, mut no) = (0, 0);
     while yes + no < 4_000 {
-        let kind = random.pick(&[Wires::SeriesParallel, Wires::Nearly, Wires::Nearly, Wires::General]);
+        let kind = random.pick(&[Wires::SeriesParallel, Wires::Wide, Wires::Nearly, Wires::Nearly, Wires::General]);
         let gates = 1 + random.below(7);
         let block = generate::block(random, kind, Values::Small, gates, 0);
         if network::check(&block).is_err() || block.wires.len() > 11 {
@@ -47,7 +47,7 @@ pub fn check_parts(random: &mut Random) -> (usize, usize) {
         }
         let reduces = parts::reduces(&block);
         assert_eq!(reduces, parts::built_up(&block), "{block:?}");
-        assert!(reduces || kind != Wires::SeriesParallel, "{block:?}");
+        assert!(reduces || !matches!(kind, Wires::SeriesParallel | Wires::Wide), "{block:?}");
         yes += usize::from(reduces);
         no += usize::from(!reduces);
     }
