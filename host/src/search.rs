@@ -86,7 +86,7 @@ impl Lists {
 }
 
 /// The order of ties: the smaller increase at the first difference comes first.
-pub fn comes_before(one: &[u32], other: &[u32]) -> bool {
+fn comes_before(one: &[u32], other: &[u32]) -> bool {
     for (a, b) in one.iter().zip(other) {
         if a != b {
             return a < b;
