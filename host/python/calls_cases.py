@@ -1,5 +1,6 @@
 #!/usr/bin/env python3
-"""Writes stdin and stdout of crates/calls_cases.
+"""calls_cases.py DIR: writes DIR/stdin and DIR/stdout of the program calls_cases.
+calls_cases.py --check DIR: says whether they still are what it would write.
 
 stdin: records, each the length of a block file (2 bytes, high byte first), four increases of 4 bytes each, and the file's bytes.
 stdout: for each record what document 01 says of the slacks, to six lent elements and to three, and of the judging of the four
@@ -8,7 +9,10 @@ are not written stay 77777; a slack below 0 is printed as late."""
 from pathlib import Path
 
 from second_opinion import Block, Refused
+from small_files import SMALL_FILES
+from stored import store
 
+ROOT = Path(__file__).resolve().parents[2]
 UNWRITTEN = 77777
 
 
@@ -61,6 +65,9 @@ def records():
     chain = [(4095, 128, [(4095, 1000), (4095, 999)])] * 3
     yield block_file(65535, chain, [(0, 1), (1, 2)]), (8190, 8190, 8190, 7)
     yield block_file(65535, chain, [(0, 1), (1, 2)]), (8190, 8191, 8190, 7)
+    yield diamond(7), (0, 0, 2, 0)
+    for file, _ in SMALL_FILES:
+        yield file, (0, 0, 0, 0)
 
 
 def answered(call):
@@ -95,17 +102,25 @@ def judge_line(block, increases):
     return "judge" + (refusal(saved) if isinstance(saved, Refused) else " %d" % saved)
 
 
+def check_by_hand():
+    """D's bytes are those stored, and the reader agrees with what was found by hand."""
+    assert diamond(10) == (ROOT / "examples" / "diamond.block").read_bytes()
+    for file, right in SMALL_FILES:
+        block = answered(lambda: Block(file))
+        assert (block.args if isinstance(block, Refused) else len(block.wires)) == right, file
+
+
 def main():
-    folder = Path(__file__).parents[2] / "crates" / "calls_cases"
-    given, said = b"", ""
+    check_by_hand()
+    given, said, count = b"", "", 0
     for file, increases in records():
         given += two(len(file)) + b"".join(x.to_bytes(4, "big") for x in increases) + file
         block = answered(lambda: Block(file))
         lines = [slacks_line(block, 6), slacks_line(block, 3), judge_line(block, increases), judge_line(block, increases[:3])]
         said += "".join(line + "\n" for line in lines)
-    (folder / "stdin").write_bytes(given)
-    (folder / "stdout").write_text(said)
+        count += 1
+    store(given, said)
+    print("calls_cases: %d records" % count)
 
 
-if __name__ == "__main__":
-    main()
+main()

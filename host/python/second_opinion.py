@@ -1,8 +1,10 @@
 """A second reader of document 01, in another language: holds the stored cases to it.
 
-second_opinion.py DIR reads DIR/stdin and DIR/stdout as host/CASES.md describes them. Reading, refusals 1 to 10, slacks and
-judging are checked for every case; whether a block is series-parallel, the best list and the curve for small blocks, by
-trying everything; of large blocks' best lists that they are in time and save what is stated and what the curve says.
+second_opinion.py DIR reads DIR/stdin and DIR/stdout as host/CASES.md describes them. Which lines there are, refusals, slacks
+and judging are checked for every case; the best list and the curve of small blocks by trying everything. Of a larger block's
+curve are checked start, count, widths, falling gains, its length and what all of it earns, which no search is needed for; of
+its best list that it is in time, saves what is stated and what the curve says, and slows no gate that gains nothing.
+At the end mistakes are put into the lines of some larger blocks; each must be noticed.
 """
 
 import itertools
@@ -12,9 +14,18 @@ from pathlib import Path
 
 MOST_LISTS = 2_000
 MOST_WIRES = 8
+BLOCKS_MISTAKEN = 10
+MOST_PAIRS = 512
+LARGEST_GAIN = 63 * 32_768 * 1_000
+ALWAYS = ["case", "slacks", "curve", "best", "judge"]
+WITH_SLACKS = ["more", "beyond", "largest"]
 
 
 class Refused(Exception):
+    pass
+
+
+class Wrong(Exception):
     pass
 
 
@@ -176,6 +187,26 @@ class Block:
         whole = frozenset(self.wires)
         return gates(whole) == set(range(self.n)) and part(whole, 0, self.n - 1)
 
+    def reduces(self):
+        """Whether the block is series-parallel, by taking away gates with one wire in and one wire out. For any size."""
+        into, out = list(map(set, self.into)), list(map(set, self.out))
+        left = set(range(1, self.n - 1))
+        while True:
+            gate = next((g for g in left if len(into[g]) == len(out[g]) == 1), None)
+            if gate is None:
+                return not left
+            left.remove(gate)
+            (a,), (b,) = into[gate], out[gate]
+            out[a] = out[a] - {gate} | {b}
+            into[b] = into[b] - {gate} | {a}
+
+    def earning(self):
+        """Every tick that earns something."""
+        return [self.widths(g) if self.activity[g] else 0 for g in range(self.n)]
+
+    def spare(self):
+        return self.deadline - self.arrival - self.longest([0] * self.n)
+
     def every_list(self):
         """Every list in some order, with its longest path and its saving."""
         for increases in itertools.product(*[range(self.widths(g) + 1) for g in range(self.n)]):
@@ -207,6 +238,18 @@ def best_and_curve(block):
     return words, " ".join(map(str, curve))
 
 
+def settled(block):
+    """Best list and curve as words; None for an answer that is given and needs more than a few lists to find."""
+    reduces = block.reduces()
+    if block.is_small() and block.series_parallel() != reduces:
+        raise Wrong("splitting the wires and taking gates away disagree: %s" % block.wires)
+    if not reduces:
+        return "refused 11 0", "refused 11 0"
+    if block.is_small():
+        return best_and_curve(block)
+    return "refused 12 0" if block.spare() < 0 else None, None
+
+
 def counted_off(words, spare):
     """What a printed curve says is the best saving at a spare."""
     total = words[1]
@@ -217,61 +260,91 @@ def counted_off(words, spare):
 
 
 class Case:
-    def __init__(self, record, lines):
+    def __init__(self, count, record, lines):
+        self.count = count
         self.lent, self.lent_widths, self.lent_gains = record[2], number(record, 3), number(record, 5)
         self.gate, self.beyond = record[7], int.from_bytes(record[8:12], "big")
-        self.file = record[12:]
-        self.lines = dict((line + " ").split(" ", 1) for line in lines)
-        self.lines = {name: words.strip() for name, words in self.lines.items()}
+        self.names = [line.split(" ")[0] for line in lines]
+        self.lines = {name: line[len(name) + 1 :] for name, line in zip(self.names, lines)}
         try:
-            self.block, self.refused = Block(self.file), None
+            self.block, self.refused = Block(record[12:]), None
         except Refused as refused:
             self.block, self.refused = None, "refused %d %d" % refused.args
 
+    def hold(self, right, name, what):
+        if not right:
+            raise Wrong("case %d: %s %s: %s" % (self.count, name, self.lines.get(name), what))
+
     def expect(self, name, words):
-        if self.lines.get(name) != words:
-            sys.exit("second opinion: case %s: %s %s in place of %s" % (self.lines["case"], name, self.lines.get(name), words))
+        self.hold(self.lines.get(name) == words, name, "it should be %s" % words)
+
+    def numbers(self, name, least):
+        """The numbers of an answer, at least so many; behind them stands that nothing else was written."""
+        words = self.lines[name].split(" ")[:-1]
+        self.hold(len(words) >= least and all(word.isdigit() for word in words), name, "numbers should stand here")
+        numbers = list(map(int, words))
+        self.expect(name, " ".join(map(str, numbers)) + " kept")
+        return numbers
 
     def check(self):
         """Whether the best list and the curve were found by trying everything."""
+        given = not self.refused and self.lent >= self.block.n
+        self.hold(self.names == ALWAYS + (WITH_SLACKS if given else []), "case", "other lines belong to it")
+        self.expect("case", str(self.count))
         if self.refused:
-            for name, end in (("slacks", " kept"), ("curve", " kept"), ("best", " kept"), ("judge", "")):
-                self.expect(name, self.refused + end)
+            for name in ("slacks", "curve", "best"):
+                self.expect(name, self.refused + " kept")
+            self.expect("judge", self.refused)
             return False
-        block = self.block
-        room = self.lent >= block.n
-        short = "refused 10 %d" % block.n
-        self.expect("slacks", (" ".join(map(str, block.slacks())) if room else short) + " kept")
-        if min(self.lent_widths, self.lent_gains) < 512:
-            self.expect("curve", "refused 10 512 kept")
-        if not room:
-            self.expect("best", short + " kept")
-            self.expect("judge", short)
-            return False
-        tried = block.is_small() and self.check_by_trying()
-        self.check_judging()
-        return tried
+        short = "refused 10 %d" % self.block.n
+        best, curve = settled(self.block)
+        if not given:
+            best = short
+        if min(self.lent_widths, self.lent_gains) < MOST_PAIRS:
+            curve = "refused 10 512"
+        self.expect("slacks", (" ".join(map(str, self.block.slacks())) if given else short) + " kept")
+        self.expect("curve", curve + " kept") if curve else self.check_curve()
+        self.expect("best", best + " kept") if best else self.check_best()
+        self.check_judging() if given else self.expect("judge", short)
+        return self.block.is_small()
 
-    def check_by_trying(self):
-        best, curve = best_and_curve(self.block)
-        if not self.block.series_parallel():
-            best = curve = "refused 11 0"
-        self.expect("best", best + " kept")
-        if min(self.lent_widths, self.lent_gains) >= 512:
-            self.expect("curve", curve + " kept")
-        return True
+    def check_curve(self):
+        """What is settled of a curve without trying lists."""
+        block = self.block
+        start, at_start, count, *pairs = self.numbers("curve", 3)
+        widths, gains = pairs[0::2], pairs[1::2]
+        self.hold(start == block.longest([0] * block.n), "curve", "start")
+        self.hold(len(widths) == len(gains) == count <= MOST_PAIRS, "curve", "count of pairs")
+        self.hold(all(width >= 1 for width in widths), "curve", "widths of at least 1")
+        between = [LARGEST_GAIN + 1] + gains + [0]
+        self.hold(between == sorted(set(between), reverse=True), "curve", "gains that fall strictly and stay above 0")
+        self.hold(start + sum(widths) == block.longest(block.earning()), "curve", "ends where every tick that earns is in time")
+        whole = at_start + sum(width * gain for width, gain in zip(widths, gains))
+        self.hold(whole == block.saving(block.earning()), "curve", "what every tick earns")
+
+    def check_best(self):
+        """What is settled of a best list without trying lists, but for what judging says of it."""
+        saving, *increases = self.numbers("best", 1)
+        self.hold(len(increases) == self.block.n, "best", "an increase for each gate")
+        still = [x for x, activity in zip(increases, self.block.activity) if activity == 0]
+        self.hold(not any(still), "best", "a gate is slowed that gains nothing")
+        if not self.lines["curve"].startswith("refused"):
+            counted = counted_off(self.numbers("curve", 3), self.block.spare())
+            self.hold(counted == saving, "best", "the curve says %d" % counted)
+
+    def has_to_choose(self):
+        """Whether curve and best list are given, and spare lies within a curve of two pairs or more."""
+        if "refused" in self.lines["curve"] + self.lines["best"]:
+            return False
+        widths = self.numbers("curve", 3)[3::2]
+        return len(widths) > 1 and 0 < self.block.spare() < sum(widths)
 
     def check_judging(self):
         block = self.block
-        best, curve = self.lines["best"].split(), self.lines["curve"].split()
         increases = [0] * block.n
-        if best[0] != "refused":
-            increases = list(map(int, best[1:-1]))
-            self.expect("judge", best[0])
-        if "refused" not in (best[0], curve[0]):
-            spare = block.deadline - block.arrival - block.longest([0] * block.n)
-            if counted_off(list(map(int, curve[:-1])), spare) != int(best[0]):
-                self.expect("best", "what the curve says")
+        if not self.lines["best"].startswith("refused"):
+            saving, *increases = self.numbers("best", 1)
+            self.expect("judge", str(saving))
         self.expect("judge", answer(lambda: [block.judge(increases)]))
 
         def judged(g, increase):
@@ -281,25 +354,100 @@ class Case:
         self.expect("more", " ".join(judged(g, increases[g] + 1) for g in range(block.n)))
         self.expect("beyond", judged(self.gate, self.beyond))
         self.expect("largest", judged(self.gate, 2**32 - 1))
-        if self.beyond != block.widths(self.gate) + 1:
-            self.expect("beyond", "one tick beyond the width")
+        self.hold(self.beyond == block.widths(self.gate) + 1, "beyond", "one tick beyond the width was meant")
+
+
+def wrong_numbers(words):
+    """The words of a line, each time with one number more by 1."""
+    for i, word in enumerate(words):
+        if word.isdigit():
+            yield words[:i] + [str(int(word) + 1)] + words[i + 1 :]
+
+
+def wrong_curves(start, at_start, count, *pairs):
+    """A curve of two pairs or more, each time with one mistake that few checks notice."""
+    w, g, *middle, x, y = pairs
+    # begun a tick late; a pair in two; an empty pair; a pair that earns nothing
+    if w > 1:
+        yield start + 1, at_start + g, count, w - 1, *pairs[1:]
+        yield start, at_start, count + 1, 1, g, w - 1, *pairs[1:]
+    yield start, at_start, count + 1, 0, g + 1, *pairs
+    yield start, at_start, count + 1, *pairs, 1, 0
+    # what the last pair earns: earned by the first, for twice as long, or at start; no pair
+    yield start, at_start, count, w, g + x, *middle, x, y - w
+    if y % 2 == 0:
+        yield start, at_start, count, w, g, *middle, 2 * x, y // 2
+    yield start, at_start + x * y, count - 1, w, g, *middle
+    yield start, at_start, 0
+
+
+def with_a_mistake(lines):
+    """The lines of a case that has to choose, each time with one mistake."""
+    for at, line in enumerate(lines):
+        words = line.split(" ")
+        for wrong in wrong_numbers(words):
+            yield lines[:at] + [" ".join(wrong)] + lines[at + 1 :]
+        yield lines[:at] + [line.replace("kept", "changed") if "kept" in line else line + " "] + lines[at + 1 :]
+        yield lines[:at] + lines[at + 1 :]
+        yield lines[: at + 1] + lines[at:]
+    curve, best = lines[2].split(" ")[1:-1], lines[3].split(" ")[1:-1]
+    for wrong in (*wrong_curves(*map(int, curve)), ("refused", 11, 0)):
+        yield lines[:2] + ["curve %s kept" % " ".join(map(str, wrong))] + lines[3:]
+    for wrong in (best[:-1], best + ["0"], ["refused", "12", "0"]):
+        yield lines[:3] + ["best %s kept" % " ".join(wrong)] + lines[4:]
+
+
+def mistakes_noticed(count, record, lines):
+    """How many mistakes were put into a case. Each must be noticed."""
+    noticed = 0
+    for wrong in with_a_mistake(lines):
+        try:
+            Case(count, record, wrong).check()
+        except Wrong:
+            noticed += 1
+            continue
+        raise Wrong("a mistake in case %d is not noticed: %s" % (count, "; ".join(wrong)))
+    return noticed
+
+
+def stored_cases(data, text):
+    """Number, record and lines of each case."""
+    *lines, end = text.split("\n")
+    starts = [i for i, line in enumerate(lines) if line.startswith("case ")] + [len(lines)]
+    if end != "" or starts[0] != 0:
+        raise Wrong("the output does not begin or end as it should")
+    at = count = 0
+    while at < len(data) and count + 1 < len(starts):
+        length = 12 + number(data, at)
+        yield count, data[at : at + length], lines[starts[count] : starts[count + 1]]
+        at, count = at + length, count + 1
+    if at != len(data) or count + 1 != len(starts):
+        raise Wrong("%d records are answered of %d bytes, and %d answers given" % (count, len(data), len(starts) - 1))
+
+
+def check_all(data, text):
+    """Holds every record to the lines printed for it; then puts mistakes into the last of the larger ones."""
+    count = tried = 0
+    larger = []
+    for stored in stored_cases(data, text):
+        case = Case(*stored)
+        count += 1
+        if case.check():
+            tried += 1
+        elif case.has_to_choose():
+            larger.append(stored)
+    if len(larger) < BLOCKS_MISTAKEN:
+        raise Wrong("there are too few larger blocks to put mistakes into")
+    noticed = sum(mistakes_noticed(*stored) for stored in larger[-BLOCKS_MISTAKEN:])
+    return "%d cases, %d of them by trying every list; %d mistakes put in were noticed" % (count, tried, noticed)
 
 
 def main():
     folder = Path(sys.argv[1])
-    data = (folder / "stdin").read_bytes()
-    groups = ("\n" + (folder / "stdout").read_text()).split("\ncase ")[1:]
-    at = count = tried = 0
-    while at < len(data):
-        length = 12 + number(data, at)
-        lines = ("case " + groups[count]).strip("\n").split("\n")
-        case = Case(data[at : at + length], lines)
-        case.expect("case", str(count))
-        tried += case.check()
-        at, count = at + length, count + 1
-    if count != len(groups):
-        sys.exit("second opinion: %d records and %d answers" % (count, len(groups)))
-    print("second opinion: %d cases, %d of them by trying every list" % (count, tried))
+    try:
+        print("second opinion: " + check_all((folder / "stdin").read_bytes(), (folder / "stdout").read_text()))
+    except Wrong as wrong:
+        sys.exit("second opinion: %s" % wrong)
 
 
 if __name__ == "__main__":

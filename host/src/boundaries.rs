@@ -2,7 +2,7 @@
 
 use crate::block::{encode, Block, Gate, Step, Wire};
 use crate::generate::{largest_gain, most_pairs, most_wires};
-use crate::worked::diamond;
+use crate::worked::{diamond, paper_chain};
 
 /// A file, and the number and place of its refusal, or `None` where the best increases are given.
 pub struct Boundary {
@@ -166,7 +166,7 @@ fn drops_and_wires() -> Vec<Boundary> {
         refused("rising drops and a number out of range", lone(gate(&[(1, 3), (1, 4), (0, 2)])), 4, 11),
         refused(
             "rising drops before a fault in a later gate",
-            encode(&block(vec![gate(&[(1, 2), (1, 2)]), gate(&[(0, 1)])], &[])),
+            encode(&block(vec![gate(&[(1, 2), (1, 3)]), gate(&[(0, 1)])], &[])),
             5,
             11,
         ),
@@ -197,15 +197,18 @@ fn networks() -> Vec<Boundary> {
         refused("a gate without a wire in", wired(3, &[(0, 2), (1, 2)]), 9, 1),
         refused("a gate without a wire out", wired(3, &[(0, 1), (0, 2)]), 9, 1),
         refused("a wire out of gate n - 1", wired(4, &[(0, 1), (1, 3), (3, 2)]), 9, 2),
-        refused("gate n - 1 alone at fault", wired(2, &[(1, 0)]), 9, 0),
+        refused("the only wire turned round", wired(2, &[(1, 0)]), 9, 0),
         refused("two gates without a wire", wired(2, &[]), 9, 0),
-        refused("only the last gate at fault", wired(4, &[(0, 1), (1, 2), (3, 2)]), 9, 2),
+        refused("gate n - 1 with a wire out and none in", wired(4, &[(0, 1), (1, 2), (3, 2)]), 9, 2),
+        refused("gate n - 1 without a wire", wired(3, &[(0, 1)]), 9, 1),
         accepted("a chain of two", wired(2, &[(0, 1)])),
         accepted("a wire beside a chain", wired(3, &[(0, 1), (1, 2), (0, 2)])),
         refused("the bridge", wired(4, &bridge), 11, 0),
         refused("the bridge, late", late(block(vec![gate(&[]); 4], &bridge)), 11, 0),
         accepted("spare 0", encode(&diamond(7))),
         refused("spare -1", encode(&diamond(6)), 12, 0),
+        accepted("spare for every tick", encode(&paper_chain(26))),
+        accepted("spare for one tick more than there are", encode(&paper_chain(27))),
         refused("deadline 0", encode(&diamond(0)), 12, 0),
         refused("arrival after deadline", encode(&Block { arrival: 11, ..diamond(10) }), 12, 0),
         accepted("arrival that leaves spare 0", encode(&Block { arrival: 3, ..diamond(10) })),

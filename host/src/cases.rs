@@ -2,10 +2,15 @@
 
 use crate::answers::{self, MAX_PAIRS};
 use crate::block::{encode, Block, Refusal, MAX_GATES};
-use crate::generate::{self, any_block, Wires, ALL_VALUES};
+use crate::generate::{self, any_block, has_ties, Values, Wires, ALL_VALUES};
 use crate::random::Random;
-use crate::{boundaries, damage, network, parts, search, worked};
+use crate::{boundaries, damage, exact, parts, search, timing, worked};
 use std::fmt::{Display, Write};
+
+/// Blocks of more lists or wires are not held to the exhaustive search; 21 wires are the most that a series-parallel block
+/// of 12 gates has.
+const MOST_LISTS: u64 = 2_000_000;
+const MOST_WIRES: usize = 21;
 
 /// A block file, what is lent to the calls, and the gate and increase of the list that goes beyond a width.
 #[derive(Clone)]
@@ -141,9 +146,30 @@ fn large_block(random: &mut Random, round: usize) -> Block {
     generate::block(random, kind, values, gates, most_steps)
 }
 
+/// Whether a block in time has spare ticks, and fewer than could earn something.
+fn has_to_choose(block: &Block) -> bool {
+    let earning: u64 = exact::curve(block).pairs.iter().map(|pair| pair.0).sum();
+    (1..earning as i64).contains(&timing::spare(block))
+}
+
+/// A series-parallel block of 8 to 12 gates, no chain, with just so many lists that all of them can be tried.
+fn searched_block(random: &mut Random, round: usize) -> Block {
+    let kind = if round % 4 == 0 { Wires::Wide } else { Wires::SeriesParallel };
+    let values = [Values::Small, Values::Equal, Values::Exhausted][round % 3];
+    loop {
+        let block = generate::block(random, kind, values, 8 + round % 5, 2);
+        let lists = search::count_of_lists(&block);
+        let many = lists >= MOST_LISTS / 4 && lists <= MOST_LISTS && timing::all_paths(&block).len() > 2;
+        if many && has_to_choose(&block) && (values != Values::Equal || has_ties(&block)) {
+            return block;
+        }
+    }
+}
+
 /// Every stored case, in order.
 pub fn all() -> Vec<Case> {
     let random = &mut Random::from_seed(2_023);
+    let searched = &mut Random::from_seed(8_012);
     let mut cases: Vec<Case> = Vec::new();
     cases.extend(worked::all().into_iter().enumerate().map(|(i, w)| Case::of(w.file, i)));
     cases.extend(boundaries::all().into_iter().enumerate().map(|(i, b)| Case::of(b.file, i)));
@@ -151,6 +177,7 @@ pub fn all() -> Vec<Case> {
     cases.extend(damaged_diamonds());
     cases.extend(small_blocks(random));
     cases.extend((0..300).map(|round| Case::of(encode(&large_block(random, round)), round)));
+    cases.extend((0..40).map(|round| Case::of(encode(&searched_block(searched, round)), round)));
     cases
 }
 
@@ -170,7 +197,7 @@ pub fn search_agrees(cases: &[Case]) -> usize {
     let mut count = 0;
     for case in cases {
         let Ok(block) = answers::well_formed(&case.file) else { continue };
-        if search::count_of_lists(&block) > 20_000 || block.wires.len() > 11 || network::check(&block).is_err() {
+        if search::count_of_lists(&block) > MOST_LISTS || block.wires.len() > MOST_WIRES {
             continue;
         }
         let series_parallel = parts::built_up(&block);

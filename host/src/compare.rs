@@ -70,7 +70,7 @@ pub struct Compared {
     pub numbers: [usize; 13],
 }
 
-/// Compares worked cases, boundaries and so many random files; the first difference ends it, with the file.
+/// Compares so many files: boundaries and worked cases, then random ones; the first difference ends it, with the file.
 pub fn compare(call: Call, files: usize, seed: u64) -> Result<Compared, String> {
     let random = &mut Random::from_seed(seed);
     let fixed = worked::all().into_iter().map(|w| w.file).chain(boundaries::all().into_iter().map(|b| b.file));

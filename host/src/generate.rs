@@ -1,8 +1,9 @@
 //! Random blocks: networks of every kind, and values that press on one rule each.
 
-use crate::block::{Block, Gate, Step, Wire, MAX_DELAY, MAX_DROP, MAX_TIME, MAX_WIDTH, MAX_WIRES};
+use crate::block::{encode, Block, Gate, Step, Wire};
+use crate::block::{MAX_DELAY, MAX_DROP, MAX_GATES, MAX_TIME, MAX_WIDTH, MAX_WIRES};
 use crate::random::Random;
-use crate::{network, timing};
+use crate::{exact, merging, network, timing};
 
 /// What the numbers of a block are like.
 #[derive(Clone, Copy, Debug, PartialEq)]
@@ -25,6 +26,8 @@ pub const ALL_VALUES: [Values; 5] = [Values::Small, Values::Equal, Values::Exhau
 #[derive(Clone, Copy, Debug, PartialEq)]
 pub enum Wires {
     SeriesParallel,
+    /// Series-parallel, with many gates side by side.
+    Wide,
     /// Series-parallel, then one wire more or elsewhere.
     Nearly,
     /// No loop and no fault at the ends, else anything.
@@ -58,6 +61,18 @@ pub fn series_parallel(random: &mut Random, gates: usize) -> Vec<Wire> {
         if !random.chance(beside, 10) {
             wires.remove(at);
         }
+        wires.push((a, gate));
+        wires.push((gate, b));
+    }
+    shuffled(random, gates, wires)
+}
+
+/// A chain of two or three gates, and all other gates side by side between neighbours of it.
+fn wide(random: &mut Random, gates: usize) -> Vec<Wire> {
+    let chain = if random.chance(1, 2) { vec![0, gates - 1] } else { vec![0, 1, gates - 1] };
+    let mut wires: Vec<(usize, usize)> = chain.windows(2).map(|ends| (ends[0], ends[1])).collect();
+    for gate in chain.len() - 1..gates - 1 {
+        let (a, b) = wires[random.below(chain.len() - 1)];
         wires.push((a, gate));
         wires.push((gate, b));
     }
@@ -134,6 +149,7 @@ fn faulty(random: &mut Random, gates: usize) -> Vec<Wire> {
 pub fn wires(random: &mut Random, kind: Wires, gates: usize) -> Vec<Wire> {
     match kind {
         Wires::SeriesParallel => series_parallel(random, gates),
+        Wires::Wide if gates > 2 => wide(random, gates),
         Wires::Nearly if gates > 2 => nearly_series_parallel(random, gates),
         Wires::General if gates > 1 => general(random, gates),
         Wires::Faulty if gates > 1 => faulty(random, gates),
@@ -188,7 +204,7 @@ fn gate(random: &mut Random, values: Values, most_steps: usize) -> Gate {
     }
 }
 
-/// Sets arrival and deadline: spare 0, -1, within the widths, at their end or beyond, or the arrival after the deadline.
+/// Sets arrival and deadline: spare 0, -1, within the widths, at their end or beyond; or a deadline that heeds no path.
 pub fn set_times(random: &mut Random, block: &mut Block) {
     block.arrival = random.pick(&[0, 0, 1, 300, 1_000]);
     let most_time = i64::from(MAX_TIME);
@@ -256,6 +272,14 @@ pub fn any_block(random: &mut Random, most_gates: usize) -> Block {
     let gates = 1 + random.below(most_gates);
     let most_steps = random.pick(&[0, 1, 2, 8]);
     block(random, kind, values, gates, most_steps)
+}
+
+/// Whether a list later in the order of ties saves as much as the best: list merging, which heeds no order, returns one.
+pub fn has_ties(block: &Block) -> bool {
+    let mut merged = [0; MAX_GATES];
+    let found = merging::best_increases(&encode(block), &mut merged);
+    let best = exact::best(block).map(|b| b.increases);
+    found.is_ok() && best.map_or(false, |b| b != merged[..b.len()])
 }
 
 /// 63 wires lead into the last gate, p 128 each, drop 1,000: the largest gain of a pair.

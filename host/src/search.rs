@@ -18,43 +18,75 @@ pub struct Curve {
     pub pairs: Vec<(u64, u64)>,
 }
 
+impl Curve {
+    /// The saving with so many spare ticks, counted off from the front; those beyond the end earn 0.
+    pub fn counted_off(&self, spare: u64) -> u64 {
+        let mut left = spare;
+        let mut saving = self.at_start;
+        for &(width, gain) in &self.pairs {
+            saving += left.min(width) * gain;
+            left -= left.min(width);
+        }
+        saving
+    }
+}
+
 /// How many lists of increases lie within the gates' widths.
 pub fn count_of_lists(block: &Block) -> u64 {
     block.gates.iter().fold(1u64, |count, g| count.saturating_mul(u64::from(g.widths()) + 1))
 }
 
-/// The list that follows in some fixed order of all lists within the widths.
-fn next_list(block: &Block, increases: &mut [u32]) -> bool {
-    for (increase, gate) in increases.iter_mut().zip(&block.gates) {
-        if *increase < gate.widths() {
-            *increase += 1;
-            return true;
+/// One list within the widths after another, with how long each path lasts under it and what it saves.
+struct Lists {
+    /// The gain of each tick of each gate.
+    gains: Vec<Vec<u64>>,
+    /// The numbers of the paths that each gate is on.
+    paths_through: Vec<Vec<usize>>,
+    increases: Vec<u32>,
+    lasts: Vec<u64>,
+    saving: u64,
+}
+
+impl Lists {
+    /// The list without any increase.
+    fn first(block: &Block) -> Lists {
+        let (gates, paths) = (0..block.gates.len(), all_paths(block));
+        let gains_of = |g| (0..).map_while(|tick| gain_of_tick(block, g, tick)).collect();
+        let through = |g| (0..paths.len()).filter(|&p| paths[p].contains(&g)).collect();
+        let lasts = |path: &Vec<usize>| path.iter().map(|&g| u64::from(block.gates[g].delay)).sum();
+        Lists {
+            gains: gates.clone().map(gains_of).collect(),
+            paths_through: gates.clone().map(through).collect(),
+            increases: vec![0; gates.len()],
+            lasts: paths.iter().map(lasts).collect(),
+            saving: 0,
         }
-        *increase = 0;
     }
-    false
-}
 
-fn longest_of(block: &Block, paths: &[Vec<usize>], increases: &[u32]) -> u64 {
-    let lasts =
-        |path: &Vec<usize>| path.iter().map(|&g| u64::from(block.gates[g].delay) + u64::from(increases[g])).sum();
-    paths.iter().map(lasts).max().expect("a block has a path")
-}
+    fn longest(&self) -> u64 {
+        *self.lasts.iter().max().expect("a block has a path")
+    }
 
-/// The gain of each tick of each gate.
-fn gains_of_ticks(block: &Block) -> Vec<Vec<u64>> {
-    let gains_of = |g| (0..).map_while(|tick| gain_of_tick(block, g, tick)).collect();
-    (0..block.gates.len()).map(gains_of).collect()
-}
-
-/// The sum of gains over all ticks of all gates.
-fn saving(gains: &[Vec<u64>], increases: &[u32]) -> u64 {
-    let of_gate = |(gains, &increase): (&Vec<u64>, &u32)| gains[..increase as usize].iter().sum::<u64>();
-    gains.iter().zip(increases).map(of_gate).sum()
+    /// The list that follows: one tick more at the first gate that has one left, none at the gates before it.
+    fn next(&mut self) -> bool {
+        for (g, gains) in self.gains.iter().enumerate() {
+            let increase = self.increases[g];
+            if let Some(gain) = gains.get(increase as usize) {
+                self.increases[g] += 1;
+                self.saving += gain;
+                self.paths_through[g].iter().for_each(|&p| self.lasts[p] += 1);
+                return true;
+            }
+            self.increases[g] = 0;
+            self.saving -= gains.iter().sum::<u64>();
+            self.paths_through[g].iter().for_each(|&p| self.lasts[p] -= u64::from(increase));
+        }
+        false
+    }
 }
 
 /// The order of ties: the smaller increase at the first difference comes first.
-pub fn comes_before(one: &[u32], other: &[u32]) -> bool {
+fn comes_before(one: &[u32], other: &[u32]) -> bool {
     for (a, b) in one.iter().zip(other) {
         if a != b {
             return a < b;
@@ -65,21 +97,20 @@ pub fn comes_before(one: &[u32], other: &[u32]) -> bool {
 
 /// Of all lists in time the one that saves most and, of those, comes first; `None` if no list is in time.
 pub fn best(block: &Block) -> Option<Best> {
-    let (paths, gains) = (all_paths(block), gains_of_ticks(block));
-    let mut increases = vec![0; block.gates.len()];
+    let mut lists = Lists::first(block);
     let mut best: Option<Best> = None;
     loop {
-        if u64::from(block.arrival) + longest_of(block, &paths, &increases) <= u64::from(block.deadline) {
-            let saving = saving(&gains, &increases);
+        if u64::from(block.arrival) + lists.longest() <= u64::from(block.deadline) {
+            let (increases, saving) = (&lists.increases, lists.saving);
             let better = match &best {
                 None => true,
-                Some(b) => saving > b.saving || saving == b.saving && comes_before(&increases, &b.increases),
+                Some(b) => saving > b.saving || saving == b.saving && comes_before(increases, &b.increases),
             };
             if better {
                 best = Some(Best { increases: increases.clone(), saving });
             }
         }
-        if !next_list(block, &mut increases) {
+        if !lists.next() {
             return best;
         }
     }
@@ -87,16 +118,14 @@ pub fn best(block: &Block) -> Option<Best> {
 
 /// Start, and the best saving if spare were 0, 1, 2 and so on, up to a spare at which every list is in time.
 pub fn best_savings(block: &Block) -> (u64, Vec<u64>) {
-    let (paths, gains) = (all_paths(block), gains_of_ticks(block));
-    let widths: Vec<u32> = block.gates.iter().map(|g| g.widths()).collect();
-    let mut increases = vec![0; block.gates.len()];
-    let start = longest_of(block, &paths, &increases);
-    let end = longest_of(block, &paths, &widths);
-    let mut savings = vec![0u64; (end - start) as usize + 1];
+    let mut lists = Lists::first(block);
+    let start = lists.longest();
+    let mut savings = vec![0u64];
     loop {
-        let needed = (longest_of(block, &paths, &increases) - start) as usize;
-        savings[needed] = savings[needed].max(saving(&gains, &increases));
-        if !next_list(block, &mut increases) {
+        let needed = (lists.longest() - start) as usize;
+        savings.resize(savings.len().max(needed + 1), 0);
+        savings[needed] = savings[needed].max(lists.saving);
+        if !lists.next() {
             break;
         }
     }
@@ -124,4 +153,32 @@ pub fn curve(block: &Block) -> Option<Curve> {
         bound = gain;
     }
     Some(Curve { start, at_start: savings[0], pairs })
+}
+
+#[cfg(test)]
+mod tests {
+    use super::*;
+    use crate::generate::{self, Values, Wires};
+    use crate::random::Random;
+    use crate::timing;
+    use std::collections::HashSet;
+
+    #[test]
+    fn every_list_comes_once_with_its_longest_path_and_its_saving() {
+        let random = &mut Random::from_seed(3);
+        for round in 0..200 {
+            let block = generate::block(random, Wires::General, Values::Small, 1 + round % 6, 2);
+            let mut lists = Lists::first(&block);
+            let mut seen = HashSet::new();
+            loop {
+                assert_eq!(lists.longest(), timing::longest(&block, &lists.increases));
+                assert_eq!(lists.saving, timing::saving(&block, &lists.increases));
+                assert!(seen.insert(lists.increases.clone()));
+                if !lists.next() {
+                    break;
+                }
+            }
+            assert_eq!(seen.len() as u64, count_of_lists(&block));
+        }
+    }
 }

@@ -7,7 +7,12 @@ use reference::random::Random;
 use reference::text::shown;
 use reference::{boundaries, damage, worked};
 use std::io::{Read, Write};
-use std::process::{exit, Command, Stdio};
+use std::os::unix::process::ExitStatusExt;
+use std::process::{exit, Child, Command, ExitStatus, Stdio};
+use std::time::Duration;
+
+/// The signal to a program that writes to a pipe without a reader.
+const BROKEN_PIPE: i32 = 13;
 
 fn fail(message: String) -> ! {
     println!("compare-resize: {message}");
@@ -32,13 +37,30 @@ fn written(program: &str, input: &[u8]) -> Vec<u8> {
     output
 }
 
-/// Nobody reads what the program writes: it must end all the same.
-fn ends_with_closed_output(program: &str) {
+/// How the program ends, or that it does not within ten seconds.
+fn ended(child: &mut Child) -> Option<ExitStatus> {
+    for _ in 0..1_000 {
+        if let Some(status) = child.try_wait().expect("a child") {
+            return Some(status);
+        }
+        std::thread::sleep(Duration::from_millis(10));
+    }
+    child.kill().expect("a child to end");
+    child.wait().expect("an end");
+    None
+}
+
+/// Where nobody reads what it writes, the program ends, by the closed pipe's signal or with success.
+fn check_closed_output(program: &str) {
     let spawned = Command::new(program).stdin(Stdio::piped()).stdout(Stdio::piped()).spawn();
     let mut child = spawned.unwrap_or_else(|error| fail(format!("{program}: {error}")));
     drop(child.stdout.take());
     child.stdin.take().expect("a pipe").write_all(&encode(&worked::diamond(10))).expect("input");
-    child.wait().expect("an end");
+    match ended(&mut child) {
+        Some(status) if status.success() || status.signal() == Some(BROKEN_PIPE) => {}
+        Some(status) => fail(format!("{program}, its output closed, ended with {status}")),
+        None => fail(format!("{program}, its output closed, does not end")),
+    }
 }
 
 /// Inputs about as long as what decides, and much longer.
@@ -74,6 +96,6 @@ fn main() {
             fail(format!("wrote\n{}in place of\n{right}for {}", String::from_utf8_lossy(&found), shown(input)));
         }
     }
-    ends_with_closed_output(program);
+    check_closed_output(program);
     println!("compare-resize: seed {seed}: {} printouts", inputs.len());
 }

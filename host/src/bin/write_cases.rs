@@ -13,7 +13,7 @@ fn fail(message: String) -> ! {
 fn same(path: &Path, expected: &[u8]) {
     match std::fs::read(path) {
         Err(error) => fail(format!("{}: {error}", path.display())),
-        Ok(found) if found != expected => fail(format!("{} is not what the search writes", path.display())),
+        Ok(found) if found != expected => fail(format!("{} is not what it writes", path.display())),
         Ok(_) => {}
     }
 }

@@ -2,7 +2,7 @@
 
 use reference::answers;
 use reference::block::{decode, encode, Refusal, MAX_GATES};
-use reference::worked::{self, Expected};
+use reference::worked::{self, Expected, U};
 use reference::{boundaries, exact, generate, merging, parts, printout, search};
 
 fn refusal<T>(answer: Result<T, Refusal>) -> Option<(u32, u32)> {
@@ -70,6 +70,18 @@ pub fn check_limits() {
     assert_eq!(pairs.len(), 512);
     let pairs = exact::curve(&generate::largest_gain()).pairs;
     assert_eq!(pairs, [(2, 63 * 32_768 * 1_000)]);
+}
+
+/// 001's chain with 12, 26 and 27 ticks to spare: ticks beyond the curve's end earn 0.
+pub fn check_counted_off() {
+    let by_hand: [(u32, [u32; 3], u64); 3] = [(12, [3, 0, 9], 318), (26, [11, 6, 9], 641), (27, [11, 6, 9], 641)];
+    for (spare, increases, saving) in by_hand {
+        let block = worked::paper_chain(spare);
+        assert_eq!(exact::curve(&block).counted_off(u64::from(spare)), saving * U);
+        let best = Some(search::Best { increases: increases.to_vec(), saving: saving * U });
+        assert_eq!(exact::best(&block), best);
+        assert_eq!(search::best(&block), best);
+    }
 }
 
 /// Refusal 10 comes after 9 and before 11 and 12, and its place is what is needed.

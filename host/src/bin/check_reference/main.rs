@@ -11,6 +11,7 @@ fn main() {
     println!("worked cases of document 01: {} answers", by_hand::check_worked());
     println!("boundaries of every refusal: {} files", by_hand::check_boundaries());
     by_hand::check_limits();
+    by_hand::check_counted_off();
     println!("short slices: {} answers", by_hand::check_room());
     println!("slacks and longest paths against every path: {} blocks", networks::check_paths(random));
     let (yes, no) = networks::check_parts(random);

@@ -1,9 +1,9 @@
 //! Paths, series-parallel networks, and what the generator makes.
 
-use reference::block::{decode, encode, Block, Gate, Wire, MAX_GATES};
-use reference::generate::{self, any_block, Values, Wires};
+use reference::block::{decode, encode, Block, Gate, Wire};
+use reference::generate::{self, any_block, has_ties, Values, Wires};
 use reference::random::Random;
-use reference::{exact, merging, network, parts, search, timing};
+use reference::{network, parts, search, timing};
 use std::collections::HashSet;
 
 /// A block whose lists the exhaustive search can try.
@@ -39,7 +39,7 @@ pub fn check_paths(random: &mut Random) -> usize {
 pub fn check_parts(random: &mut Random) -> (usize, usize) {
     let (mut yes, mut no) = (0, 0);
     while yes + no < 4_000 {
-        let kind = random.pick(&[Wires::SeriesParallel, Wires::Nearly, Wires::Nearly, Wires::General]);
+        let kind = random.pick(&[Wires::SeriesParallel, Wires::Wide, Wires::Nearly, Wires::Nearly, Wires::General]);
         let gates = 1 + random.below(7);
         let block = generate::block(random, kind, Values::Small, gates, 0);
         if network::check(&block).is_err() || block.wires.len() > 11 {
@@ -47,7 +47,7 @@ pub fn check_parts(random: &mut Random) -> (usize, usize) {
         }
         let reduces = parts::reduces(&block);
         assert_eq!(reduces, parts::built_up(&block), "{block:?}");
-        assert!(reduces || kind != Wires::SeriesParallel, "{block:?}");
+        assert!(reduces || !matches!(kind, Wires::SeriesParallel | Wires::Wide), "{block:?}");
         yes += usize::from(reduces);
         no += usize::from(!reduces);
     }
@@ -112,10 +112,7 @@ pub fn check_generator(random: &mut Random) -> usize {
                 late += usize::from(spare < 0);
                 barely_late += usize::from(spare == -1);
                 full += usize::from(spare == 0);
-                let mut merged = [0; MAX_GATES];
-                let found = merging::best_increases(&encode(&block), &mut merged);
-                let best = exact::best(&block).map(|b| b.increases);
-                ties += usize::from(found.is_ok() && best.map_or(false, |b| b != merged[..b.len()]));
+                ties += usize::from(has_ties(&block));
             }
         }
     }

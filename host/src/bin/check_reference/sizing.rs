@@ -108,14 +108,8 @@ pub fn check_curve(random: &mut Random) -> usize {
         let all: u64 = curve.pairs.iter().map(|p| p.0).sum();
         for _ in 0..4 {
             let spare = random.below(all as usize + 2) as u64;
-            let mut left = spare;
-            let mut saving = curve.at_start;
-            for &(width, gain) in &curve.pairs {
-                saving += left.min(width) * gain;
-                left -= left.min(width);
-            }
             let best = exact::best_within(&block, (curve.start + spare) as i64).expect("a list");
-            assert_eq!(best.saving, saving, "spare {spare}: {block:?}");
+            assert_eq!(best.saving, curve.counted_off(spare), "spare {spare}: {block:?}");
         }
     }
     300

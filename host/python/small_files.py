@@ -1,0 +1,36 @@
+"""Small block files with what the reading of each comes to, by hand: number and place of the refusal, or the count of wires."""
+
+
+def head(n, high, low):
+    """A block field of n gates, arrival and deadline 0, with the two bytes of p."""
+    return bytes([1, 0, 8, 1, n, 0, 0, 0, 0, high, low])
+
+
+PLAIN = bytes([2, 0, 4, 0, 1, 0, 128])
+ONE = head(1, 0, 128)
+TWO = head(2, 0, 128) + PLAIN + PLAIN
+EQUAL_DROPS = bytes([2, 0, 12, 0, 1, 0, 128, 0, 2, 0, 5, 0, 3, 0, 5])
+
+SMALL_FILES = [
+    # no byte; short header; tag before length; length before short body; short body before a number's range
+    (b"", (1, 0)),
+    (bytes([1, 0]), (1, 0)),
+    (bytes([2, 0, 9]), (2, 0)),
+    (bytes([1, 0, 9]), (3, 0)),
+    (bytes([1, 0, 8, 2]), (1, 0)),
+    # 65 gates and none; p 257 and 256
+    (head(65, 0, 128), (4, 0)),
+    (head(0, 0, 128), (4, 0)),
+    (head(1, 1, 1), (4, 0)),
+    (head(1, 1, 0) + PLAIN, 0),
+    # a due gate is missing; a wire stands where a gate is due; 9 steps; drops that do not fall
+    (ONE, (1, 11)),
+    (ONE + bytes([3, 0, 2, 0, 0]), (2, 11)),
+    (ONE + bytes([2, 0, 40]), (3, 11)),
+    (ONE + EQUAL_DROPS, (5, 11)),
+    # a wire to a gate that is not there, to its own gate, and twice; one byte behind the last wire
+    (TWO + bytes([3, 0, 2, 0, 2]), (4, 25)),
+    (TWO + bytes([3, 0, 2, 1, 1]), (6, 25)),
+    (TWO + bytes([3, 0, 2, 0, 1, 3, 0, 2, 0, 1]), (6, 30)),
+    (TWO + bytes([3, 0, 2, 0, 1, 3]), (1, 30)),
+]
