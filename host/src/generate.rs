@@ -37,7 +37,7 @@ pub enum Wires {
 }
 
 /// Gives the gates between the first and the last random numbers, and the wires a random order.
-fn shuffled(random: &mut Random, gates: usize, wires: Vec<(usize, usize)>) -> Vec<Wire> {
+pub fn shuffled(random: &mut Random, gates: usize, wires: Vec<(usize, usize)>) -> Vec<Wire> {
     let mut number: Vec<usize> = (0..gates).collect();
     if gates > 2 {
         random.shuffle(&mut number[1..gates - 1]);
@@ -240,9 +240,8 @@ pub fn block(random: &mut Random, kind: Wires, values: Values, gates: usize, mos
     block
 }
 
-/// A series-parallel block with every gate of exactly so many steps and about half of the room used: for measuring.
-pub fn measured_block(random: &mut Random, gates: usize, step_count: usize) -> Block {
-    let wires = series_parallel(random, gates);
+/// A block with every gate of exactly so many steps and about half of the room used: for measuring.
+pub fn measured_block(random: &mut Random, gates: usize, wires: Vec<Wire>, step_count: usize) -> Block {
     let mut block = bare_block(gates, wires);
     for gate in &mut block.gates {
         gate.delay = random.between(0, 50);

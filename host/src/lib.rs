@@ -15,6 +15,7 @@ pub mod parts;
 pub mod printout;
 pub mod random;
 pub mod search;
+pub mod shapes;
 pub mod text;
 pub mod timing;
 pub mod worked;
