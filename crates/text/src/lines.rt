@@ -1,12 +1,12 @@
 // The lines of the printout: a refusal, the head of a block, and its gates.
-ghost use mathlib.Core.List.{List};
-ghost use Prim.Native.Nat.{ℕ, _+_, _*_, _≤_};
+ghost use mathlib.Core.List.{_++_};
+ghost use Prim.Native.Nat.{_+_, _*_, _≤_};
+ghost use lib.IntN.{pos};
 ghost use lib.ListN.{length};
 ghost use Rattle.model.specs.Limits.{max-gates};
-ghost use Rattle.model.specs.Block.{Block};
-ghost use Rattle.model.specs.Printout.{refusal-line, head-lines, gate-line, gate-lines, block-lines};
+ghost use Rattle.model.specs.Printout.{refusal-line, head-text, gate-text, gate-texts};
 ghost use Rattle.text.specs.Written.{Written, refusal-room, head-room, gate-room, block-room};
-ghost use Rattle.text.specs.Numbers.{HeadNumbers, GateNumbers, GatesNumbers, Listed};
+ghost use Rattle.text.specs.Numbers.{Listed, listed-line};
 use crate::number::natural;
 use crate::number::wide;
 use crate::pieces::write_named;
@@ -31,7 +31,7 @@ pub fn write_head(
     out: &mut [u8],
 ) -> usize
     requires { ⌜ head-room ≤ length (now out) ⌝ }
-    ensures { λ r. ⌜ (r ≤ head-room) × ((B : Block) (x : List ℕ) → HeadNumbers B x gates wires start spare saving → Written (head-lines B x) 0 (now (out .entry)) (now (out .exit)) r) ⌝ }
+    ensures { λ r. ⌜ (r ≤ head-room) × Written (head-text gates wires start (pos spare) saving) 0 (now (out .entry)) (now (out .exit)) r ⌝ }
 {
     let mut next = write_named(b"gates ", gates, b' ', out, 0);
     next = write_named(b"wires ", wires, b'\n', out, next);
@@ -43,7 +43,7 @@ pub fn write_head(
 // Writes the line of gate g at place `at` and answers the place behind it.
 pub fn write_gate(g: u64, delay: u64, increase: u64, slack: u64, out: &mut [u8], at: usize) -> usize
     requires { ⌜ at + gate-room ≤ length (now out) ⌝ }
-    ensures { λ r. ⌜ (r ≤ at + gate-room) × ((B : Block) (x : List ℕ) → GateNumbers B x g delay increase slack → Written (gate-line B x g) at (now (out .entry)) (now (out .exit)) r) ⌝ }
+    ensures { λ r. ⌜ (r ≤ at + gate-room) × Written (gate-text g delay increase (pos slack)) at (now (out .entry)) (now (out .exit)) r ⌝ }
 {
     let mut next = write_number(g, b' ', out, at);
     next = write_number(delay, b' ', out, next);
@@ -61,7 +61,7 @@ pub fn write_gates(
     at: usize,
 ) -> usize
     requires { ⌜ (at + gate-room * n ≤ length (now out)) × Listed n (now delays) (now increases) (now slacks) ⌝ }
-    ensures { λ r. ⌜ (r ≤ at + gate-room * n) × ((B : Block) (x : List ℕ) → GatesNumbers B x n (now (delays .entry)) (now (increases .entry)) (now (slacks .entry)) → Written (gate-lines B x n) at (now (out .entry)) (now (out .exit)) r) ⌝ }
+    ensures { λ r. ⌜ (r ≤ at + gate-room * n) × Written (gate-texts (listed-line (now (delays .entry)) (now (increases .entry)) (now (slacks .entry))) n) at (now (out .entry)) (now (out .exit)) r ⌝ }
 {
     let mut next = at;
     let mut g = 0;
@@ -92,7 +92,7 @@ pub fn write_block(
     out: &mut [u8],
 ) -> usize
     requires { ⌜ (n ≤ max-gates) × (block-room ≤ length (now out)) × Listed n (now delays) (now increases) (now slacks) ⌝ }
-    ensures { λ r. ⌜ (r ≤ block-room) × ((B : Block) (x : List ℕ) → HeadNumbers B x n wires start spare saving → GatesNumbers B x n (now (delays .entry)) (now (increases .entry)) (now (slacks .entry)) → Written (block-lines B x) 0 (now (out .entry)) (now (out .exit)) r) ⌝ }
+    ensures { λ r. ⌜ (r ≤ block-room) × Written (head-text n wires start (pos spare) saving ++ gate-texts (listed-line (now (delays .entry)) (now (increases .entry)) (now (slacks .entry))) n) 0 (now (out .entry)) (now (out .exit)) r ⌝ }
 {
     let next = write_head(n as u64, wires, start, spare, saving, out);
     write_gates(n, delays, increases, slacks, out, next)

@@ -2,9 +2,9 @@
 use borrow.Author.Needs.{needs}
 use mathlib.Core.Path.{refl}
 use native.Mathlib.Omega.{arith}
-use lib.ListN.{take}
-use Rattle.answers.proofs.HeldLaws.{block, startable, the-limits, the-lent}
-use Rattle.printing.proofs.HeldLaws.{slackable, gates-numbers, listed, head-numbers, spare-fits}
+use Rattle.answers.proofs.HeldLaws.{startable, the-limits, the-lent}
+use Rattle.text.proofs.Writing.{as-text}
+use Rattle.printing.proofs.HeldLaws.{slackable, text-is, listed, spare-fits}
 use Rattle.printing.proofs.held.print_block.Statement.{statement}
 use Rattle.printing.proofs.held.print_block.Tie as tie
 
@@ -39,7 +39,8 @@ same-length : tie.Need-same-length
 same-length c = c .before .before .write-block .kept .1 .1 .1 .1 .1 .1 .1 .1 .0
 
 returns : tie.Need-returns
-returns c = c .before .before .write-block .ensures .1 (block (c .before .before .before .before .before .before .before .before .before .before .before .before .before .before .before .before .before .before .before .before .pre .0 .1)) (take (c .before .before .before .before .before .before .before .before .before .before .before .before .before .before .before .before .before .before .before .before .args .n) (c .before .before .before .before .before .before .before .before .before .before .before .before .before .before .before .before .before .before .before .before .args .increases .now)) (head-numbers (c .before .before .before .before .before .before .before .before .before .before .before .before .before .before .before .before .before .before .before .before .pre .0 .1) (c .before .before .before .before .before .before .before .before .before .before .before .before .before .before .before .before .before .before .before .before .pre .1 .0) (c .before .before .before .before .before .before .before .before .start-time .ensures)) (gates-numbers (c .before .before .before .before .before .before .before .before .before .before .before .before .before .before .before .before .before .before .before .before .pre .0 .1) _ refl _ (c .before .before .before .before .before .before .write-slacks .ensures) (c .before .before .before .before .before .before .before .before .before .before .before .before .before .before .before .before .before .before .before .before .args .increases .now))
+returns c = let start = c .before .before .before .before .before .before .before .before .before .before .before .before .before .before .before .before .before .before .before .before in
+    as-text (text-is (start .pre .0 .1) _ refl _ (c .before .before .before .before .before .before .write-slacks .ensures) (start .pre .1 .0) (c .before .before .before .before .before .before .before .before .start-time .ensures)) (c .before .before .write-block .ensures .1)
 
 pub print-block-spec : {M : Type 1} → statement M
 print-block-spec = tie.close (tie.spec start-time-requires add-spare sub-spare slice-aggregate-write-slacks write-slacks-requires cast-write-block cast-write-block-2 slice-aggregate-write-block write-block-requires same-length returns)
