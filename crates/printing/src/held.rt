@@ -20,7 +20,7 @@ ghost use Rattle.printing.specs.PrintoutIn.{printout-room, Printed};
 ghost use Rattle.printing.specs.Shown.{Sized};
 
 // Writes the printout of a block in time, with these increases and what they save, to the front of `out` and answers its length.
-pub fn print_block(
+fn print_block(
     n: usize,
     m: usize,
     arrival: u32,

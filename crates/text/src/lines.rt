@@ -22,14 +22,7 @@ pub fn write_refusal(number: u64, place: u64, out: &mut [u8]) -> usize
 }
 
 // Writes the three head lines of a block's printout to the front of the slice and answers their length.
-pub fn write_head(
-    gates: u64,
-    wires: u64,
-    start: u64,
-    spare: u64,
-    saving: u64,
-    out: &mut [u8],
-) -> usize
+fn write_head(gates: u64, wires: u64, start: u64, spare: u64, saving: u64, out: &mut [u8]) -> usize
     requires { ⌜ head-room ≤ length (now out) ⌝ }
     ensures { λ r. ⌜ (r ≤ head-room) × Written (head-text gates wires start (pos spare) saving) 0 (now (out .entry)) (now (out .exit)) r ⌝ }
 {
@@ -41,7 +34,7 @@ pub fn write_head(
 }
 
 // Writes the line of gate g at place `at` and answers the place behind it.
-pub fn write_gate(g: u64, delay: u64, increase: u64, slack: u64, out: &mut [u8], at: usize) -> usize
+fn write_gate(g: u64, delay: u64, increase: u64, slack: u64, out: &mut [u8], at: usize) -> usize
     requires { ⌜ at + gate-room ≤ length (now out) ⌝ }
     ensures { λ r. ⌜ (r ≤ at + gate-room) × Written (gate-text g delay increase (pos slack)) at (now (out .entry)) (now (out .exit)) r ⌝ }
 {
@@ -52,7 +45,7 @@ pub fn write_gate(g: u64, delay: u64, increase: u64, slack: u64, out: &mut [u8],
 }
 
 // Writes the lines of the first n gates at place `at` and answers the place behind them.
-pub fn write_gates(
+fn write_gates(
     n: usize,
     delays: &[u32],
     increases: &[u32],

@@ -9,7 +9,7 @@ ghost use Rattle.text.specs.Written.{Written, number-room, word-room, na
 use decimal::write_digits;
 
 // Writes the bytes of a word at place `at` of the slice and answers the place behind them; where they do not fit there, writes nothing and answers `at`.
-pub fn write_bytes(word: &[u8], out: &mut [u8], at: usize) -> usize
+fn write_bytes(word: &[u8], out: &mut [u8], at: usize) -> usize
     ensures { λ r. ⌜ (r ≡ behind (now (word .entry)) at (now (out .entry))) × (now (out .exit) ≡ placed (now (word .entry)) at (now (out .entry))) ⌝ }
 {
     if out.len() < at {
