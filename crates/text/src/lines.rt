@@ -9,8 +9,16 @@ ghost use Rattle.text.specs.Written.{Written, refusal-room, head-room, g
 ghost use Rattle.text.specs.Numbers.{Listed, listed-line};
 use crate::number::natural;
 use crate::number::wide;
+use crate::pieces::NAMED_ROOM;
+use crate::pieces::NUMBER_ROOM;
 use crate::pieces::write_named;
 use crate::pieces::write_number;
+
+// Bytes of the head, at most (specs/Written.antt): five words, each with a number.
+pub const HEAD_ROOM: usize = 5 * NAMED_ROOM;
+
+// Bytes of the line of a gate, at most: four numbers.
+pub const GATE_ROOM: usize = 4 * NUMBER_ROOM;
 
 // Writes the line of a refusal to the front of the slice and answers its length.
 pub fn write_refusal(number: u64, place: u64, out: &mut [u8]) -> usize
