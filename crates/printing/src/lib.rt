@@ -1,4 +1,5 @@
 // The printout of a block file, written into a lent slice of bytes. Its promise settles the answer and every byte afterwards, for any file and any slice.
+mod block;
 mod held;
 mod refusal;
 

@@ -29,16 +29,25 @@ pub fn write_refusal(number: u64, place: u64, out: &mut [u8]) -> usize
     write_number(place, b'\n', out, next)
 }
 
+// The numbers of a printout's head.
+pub struct Head {
+    pub gates: usize,
+    pub wires: usize,
+    pub start: u32,
+    pub spare: u32,
+    pub saving: u64,
+}
+
 // Writes the three head lines of a block's printout to the front of the slice and answers their length.
-fn write_head(gates: u64, wires: u64, start: u64, spare: u64, saving: u64, out: &mut [u8]) -> usize
+fn write_head(head: Head, out: &mut [u8]) -> usize
     requires { ⌜ head-room ≤ length (now out) ⌝ }
-    ensures { λ r. ⌜ (r ≤ head-room) × Written (head-text gates wires start (pos spare) saving) 0 (now (out .entry)) (now (out .exit)) r ⌝ }
+    ensures { λ r. ⌜ (r ≤ head-room) × Written (head-text (head .gates) (head .wires) (head .start) (pos (head .spare)) (head .saving)) 0 (now (out .entry)) (now (out .exit)) r ⌝ }
 {
-    let mut next = write_named(b"gates ", gates, b' ', out, 0);
-    next = write_named(b"wires ", wires, b'\n', out, next);
-    next = write_named(b"start ", start, b' ', out, next);
-    next = write_named(b"spare ", spare, b'\n', out, next);
-    write_named(b"saving ", saving, b'\n', out, next)
+    let mut next = write_named(b"gates ", head.gates as u64, b' ', out, 0);
+    next = write_named(b"wires ", head.wires as u64, b'\n', out, next);
+    next = write_named(b"start ", head.start as u64, b' ', out, next);
+    next = write_named(b"spare ", head.spare as u64, b'\n', out, next);
+    write_named(b"saving ", head.saving, b'\n', out, next)
 }
 
 // Writes the line of gate g at place `at` and answers the place behind it.
@@ -80,21 +89,17 @@ fn write_gates(
     next
 }
 
-// Writes the printout of a block of n gates to the front of the slice and answers its length.
+// Writes the printout of a block to the front of the slice and answers its length.
 pub fn write_block(
-    n: usize,
-    wires: u64,
-    start: u64,
-    spare: u64,
-    saving: u64,
+    head: Head,
     delays: &[u32],
     increases: &[u32],
     slacks: &[i32],
     out: &mut [u8],
 ) -> usize
-    requires { ⌜ (n ≤ max-gates) × (block-room ≤ length (now out)) × Listed n (now delays) (now increases) (now slacks) ⌝ }
-    ensures { λ r. ⌜ (r ≤ block-room) × Written (head-text n wires start (pos spare) saving ++ gate-texts (listed-line (now (delays .entry)) (now (increases .entry)) (now (slacks .entry))) n) 0 (now (out .entry)) (now (out .exit)) r ⌝ }
+    requires { ⌜ (head .gates ≤ max-gates) × (block-room ≤ length (now out)) × Listed (head .gates) (now delays) (now increases) (now slacks) ⌝ }
+    ensures { λ r. ⌜ (r ≤ block-room) × Written (head-text (head .gates) (head .wires) (head .start) (pos (head .spare)) (head .saving) ++ gate-texts (listed-line (now (delays .entry)) (now (increases .entry)) (now (slacks .entry))) (head .gates)) 0 (now (out .entry)) (now (out .exit)) r ⌝ }
 {
-    let next = write_head(n as u64, wires, start, spare, saving, out);
-    write_gates(n, delays, increases, slacks, out, next)
+    let next = write_head(head, out);
+    write_gates(head.gates, delays, increases, slacks, out, next)
 }
