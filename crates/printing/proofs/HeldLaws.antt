@@ -2,8 +2,8 @@
 -- Assumes nothing.
 use mathlib.Core.Path.{_≡_, refl, sym, _∙_, ap, subst}
 use mathlib.Core.Logic.{⊎-elim}
-use mathlib.Core.List.{List, [], _∷_}
-use Prim.Native.Nat.{ℕ, _+_, _-_, _≤_, _<_}
+use mathlib.Core.List.{List, [], _∷_, _++_}
+use Prim.Native.Nat.{ℕ, zero, suc, _+_, _-_, _≤_, _<_}
 use native.Mathlib.Omega.{arith}
 use lib.IntN.{ℤ, pos}
 use lib.Signed.{_<ℤ_}
@@ -20,7 +20,7 @@ use Rattle.model.specs.InTime.{no-increase}
 use Rattle.model.specs.Slack.{slack, start, spare}
 use Rattle.model.specs.Refusal.{IllFormed}
 use Rattle.model.specs.Answer.{Answer, accepted, refusal-answer, Outcome, fits, passes, best, BestLines, AnswersBest}
-use Rattle.model.specs.Printout.{refused, printed, block-lines, refusal-line}
+use Rattle.model.specs.Printout.{refused, printed, head-text, gate-texts, head-lines, gate-line, block-lines, refusal-line}
 use Rattle.model.proofs.Signed.{difference-pos}
 use Rattle.model.proofs.Source.{Along}
 use Rattle.model.proofs.Slack.{late-is}
@@ -35,11 +35,17 @@ use Rattle.answers.proofs.HeldLaws.{block, count, the-along, the-lent, some, st
 use Rattle.resizing.proofs.SlacksLaws as Slacks
 use Rattle.resizing.proofs.CallLaws.{best-answered}
 use Rattle.text.specs.Written.{Written}
-use Rattle.text.specs.Numbers.{Natural, HeadNumbers, GatesNumbers, Listed}
+use Rattle.text.specs.Numbers.{Natural, Listed, listed-line}
 use Rattle.text.proofs.Writing.{front}
-use Rattle.text.proofs.InTime.{no-sign}
 use Rattle.printing.specs.PrintoutIn.{Printed}
 use Rattle.printing.specs.Shown.{Sized}
+use Rattle.printing.proofs.InTime.{no-sign}
+
+-- the same line for each gate
+same-texts : (line other : ℕ → List ℕ) (n : ℕ) → ((g : ℕ) → g < n → line g ≡ other g) → gate-texts line n ≡ gate-texts other n
+unfolding gate-texts
+same-texts line other zero same = refl
+same-texts line other (suc n) same = rw (same-texts line other n (λ g l. same g (omega arith)), same n (omega arith))
 
 -- a refusal of the best increases, whose line is written
 refusal-printed : (x : Refusal) {file after old new : List ℕ} {r : ℕ}
@@ -131,9 +137,17 @@ module _ {file : List ℕ} {n m arrival deadline activity : ℕ} {G : GateArrays
         stands = front w .1;
       }
 
-  spare-natural : arrival + start (block h) ≤ deadline → Natural (spare (block h))
+  -- the head of the numbers that are handed over is that of the block ..
+  head-is : {saved r : ℕ} {increases : List ℕ} → Sized (block h) n saved increases
+      → StartIs n m (W .sources) (W .targets) (W .delays) (G .delays) r
+      → head-text n m r (pos (deadline - (arrival + r))) saved ≡ head-lines (block h) (take n increases)
   unfolding spare
-  spare-natural in-time = (deadline - (arrival + start (block h)), difference-pos deadline (arrival + start (block h)) in-time)
+  head-is s found =
+      let gates-is = count h in
+      let wires-is = wires-are file n m arrival deadline activity G W (h .well .end) (h .well .reads) in
+      let start-is = start-found h found in
+      let spare-is = difference-pos deadline (arrival + start (block h)) (s .in-time) in
+      cc
 
   module _ (lent-out : List ℤ) (long : length lent-out ≡ max-gates) where
     -- the slacks can be written ..
@@ -153,13 +167,25 @@ module _ {file : List ℕ} {n m arrival deadline activity : ℕ} {G : GateArrays
           ∙ Slacks.slack-is file n m arrival deadline activity G W order (h .well) (h .ordered)
           (wire-room (h .sources-long) (h .targets-long) (h .wire-delays-long)) (omega (arith, h .delays-long)) (omega (arith, h .order-long)) lent-out g l)
 
-      pub gates-numbers : (increases : List ℕ) → GatesNumbers (block h) (take n increases) n (G .delays) increases slacks
-      gates-numbers increases =
-          record {
-            delays-are = delay-is file n m arrival deadline activity G W (h .well .end) (h .well .reads);
-            increases-are = λ g l. getD-take n increases g 0 l;
-            slacks-are = slack-at;
-          }
+      -- .. so is the line of each gate ..
+      line-at : (increases : List ℕ) (g : ℕ) → g < n → listed-line (G .delays) increases slacks g ≡ gate-line (block h) (take n increases) g
+      line-at increases g l =
+          let delay = delay-is file n m arrival deadline activity G W (h .well .end) (h .well .reads) g l in
+          let increase = getD-take n increases g 0 l in
+          let slack-is = slack-at g l in
+          cc
+
+      -- .. and the whole text
+      pub text-is : {saved r : ℕ} {increases : List ℕ} → Sized (block h) n saved increases
+          → StartIs n m (W .sources) (W .targets) (W .delays) (G .delays) r
+          → head-text n m r (pos (deadline - (arrival + r))) saved ++ gate-texts (listed-line (G .delays) increases slacks) n
+          ≡ block-lines (block h) (take n increases)
+      unfolding block-lines
+      text-is {increases = increases} s found =
+          let head = head-is s found in
+          let gates = same-texts (listed-line (G .delays) increases slacks) (gate-line (block h) (take n increases)) n (line-at increases)
+          ∙ ap (gate-texts (gate-line (block h) (take n increases))) (sym (count h)) in
+          cc
 
       pub listed : {saved : ℕ} {increases : List ℕ} → Sized (block h) n saved increases → length slacks ≡ max-gates → Listed n (G .delays) increases slacks
       listed s kept =
@@ -167,23 +193,8 @@ module _ {file : List ℕ} {n m arrival deadline activity : ℕ} {G : GateArrays
             delays-long = omega (arith, h .delays-long, the-lent h .gates);
             increases-long = s .long;
             slacks-long = omega (arith, the-lent h .gates);
-            natural = λ g l. subst Natural (slack-at g l) (no-sign (block h) (h .well .network) along-all (spare-natural (s .in-time)) g (omega (arith, count h)));
+            natural = λ g l. subst Natural (slack-at g l) (no-sign (block h) (h .well .network) along-all (s .in-time) g (omega (arith, count h)));
           }
-
-  -- the numbers of the head
-  pub head-numbers : {saved r : ℕ} {increases : List ℕ} → Sized (block h) n saved increases
-      → StartIs n m (W .sources) (W .targets) (W .delays) (G .delays) r
-      → HeadNumbers (block h) (take n increases) n m r (deadline - (arrival + r)) saved
-  unfolding spare
-  head-numbers s found =
-      let is = start-found h found in
-      record {
-        gates-are = count h;
-        wires-are = wires-are file n m arrival deadline activity G W (h .well .end) (h .well .reads);
-        start-is = sym is;
-        spare-is = rw is (difference-pos deadline (arrival + start (block h)) (s .in-time));
-        saving-is = s .saves;
-      }
 
   pub spare-fits : {saved r : ℕ} {increases : List ℕ} → Sized (block h) n saved increases
       → StartIs n m (W .sources) (W .targets) (W .delays) (G .delays) r

@@ -1,3 +1,4 @@
 pub mod Unique
 pub mod Outcome
+pub mod InTime
 pub mod HeldLaws

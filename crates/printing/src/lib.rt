@@ -1,4 +1,5 @@
 // The printout of a block file, written into a lent slice of bytes. Its promise settles the answer and every byte afterwards, for any file and any slice.
+mod block;
 mod held;
 mod refusal;
 
@@ -9,16 +10,18 @@ use loading::load;
 use model::limits::MAX_GATES;
 use model::limits::MAX_PAIRS;
 use model::limits::MAX_WIRES;
+use text::lines::GATE_ROOM;
+use text::lines::HEAD_ROOM;
 ghost use Rattle.printing.specs.PrintoutIn.{PrintoutIn};
 
 // The bytes that are enough for the printout of any file.
-const ROOM: usize = 5521;
+pub const PRINTOUT_BYTES: usize = HEAD_ROOM + GATE_ROOM * MAX_GATES;
 
-// Writes the printout of the file to the front of `out` and answers its length; where `out` has less than ROOM bytes, writes nothing and answers 0.
+// Writes the printout of the file to the front of `out` and answers its length; where `out` has fewer than PRINTOUT_BYTES bytes, writes nothing and answers 0.
 pub fn printout(file: &[u8], out: &mut [u8]) -> usize
     ensures { λ r. ⌜ PrintoutIn (now (file .entry)) (now (out .entry)) (now (out .exit)) r ⌝ }
 {
-    if out.len() < ROOM {
+    if out.len() < PRINTOUT_BYTES {
         return 0;
     }
     let mut delays = [0u32; MAX_GATES];

@@ -1,19 +1,18 @@
 -- The pieces and lines of the printout as written texts: a number with a byte behind it, a word in front of that, and from these the lines of `Printout`.
 -- The idea: each piece stands behind the one before; how the pieces are grouped does not matter.
 -- Assumes nothing.
-use mathlib.Core.Path.{_≡_, sym, _∙_}
+use mathlib.Core.Path.{_≡_}
 use mathlib.Core.List.{List, [], _∷_, _++_, append-assoc}
 use Prim.Native.Nat.{ℕ, _+_, _^_, _<_, _≤_}
 use native.Mathlib.Numerals.{add-one}
 use native.Mathlib.Omega.{arith}
 use lib.IntN.{ℤ, pos}
 use lib.ListN.{length, getD, set}
-use Rattle.model.specs.Block.{Block, gate-count}
-use Rattle.model.specs.Printout.{digits, word-gates, word-wires, word-start, word-spare, word-saving, word-refused, blank, line-end, head-lines, gate-line, gate-lines, block-lines, refusal-line}
+use Rattle.model.specs.Printout.{digits, word-gates, word-wires, word-start, word-spare, word-saving, word-refused, blank, line-end, head-text, gate-text, gate-texts, refusal-line}
 use Rattle.decimal.specs.Placed.{placed, behind}
 use Rattle.decimal.proofs.Digits.{at-most-twenty}
 use Rattle.text.specs.Written.{Written, number-room, word-room, named-room}
-use Rattle.text.specs.Numbers.{HeadNumbers, GateNumbers, GatesNumbers}
+use Rattle.text.specs.Numbers.{listed-line}
 use Rattle.text.proofs.Writing.{with-room, same-length, then, byte, as-text}
 
 -- a number with the byte `end` behind it, once its digits are written
@@ -63,14 +62,12 @@ pub head-written : (gates wires start spare saved : ℕ) {a b c d next : ℕ} {o
     → Written (word-start ++ digits start ++ 32 ∷ []) b out-b out-c c
     → Written (word-spare ++ digits spare ++ 10 ∷ []) c out-c out-d d
     → Written (word-saving ++ digits saved ++ 10 ∷ []) d out-d new next
-    → (B : Block) (x : List ℕ) → HeadNumbers B x gates wires start spare saved
-    → Written (head-lines B x) 0 old new next
-unfolding head-lines
-head-written gates wires start spare saved v w s t u B x h =
+    → Written (head-text gates wires start (pos spare) saved) 0 old new next
+unfolding head-text
+head-written gates wires start spare saved v w s t u =
     as-text
-    (rw (h .gates-are, h .wires-are, h .start-is, h .spare-is, h .saving-is)
     (regroup word-gates (digits gates) word-wires (digits wires) word-start (digits start) word-spare (digits spare) word-saving (digits saved)
-    blank line-end))
+    blank line-end)
     (then (then (then (then v w) s) t) u)
 
 pub gate-written : (g delay increase slack at : ℕ) {a b c next : ℕ} {old out-a out-b out-c new : List ℕ}
@@ -78,29 +75,16 @@ pub gate-written : (g delay increase slack at : ℕ) {a b c next : ℕ} {old out
     → Written (digits delay ++ 32 ∷ []) a out-a out-b b
     → Written (digits increase ++ 32 ∷ []) b out-b out-c c
     → Written (digits slack ++ 10 ∷ []) c out-c new next
-    → (B : Block) (x : List ℕ) → GateNumbers B x g delay increase slack
-    → Written (gate-line B x g) at old new next
-unfolding gate-line
-gate-written g delay increase slack at v w s t B x h =
-    as-text (rw (h .delay-is, h .increase-is, h .slack-is) (simp append-assoc)) (then (then (then v w) s) t)
+    → Written (gate-text g delay increase (pos slack)) at old new next
+unfolding gate-text
+gate-written g delay increase slack at v w s t = as-text (simp append-assoc) (then (then (then v w) s) t)
 
--- the numbers of gate g, as they are read from the lists
-pub numbers-of : (B : Block) (x : List ℕ) {n : ℕ} {delays increases : List ℕ} {slacks : List ℤ} → GatesNumbers B x n delays increases slacks
-    → (g : ℕ) → g < n → {delay increase slack : ℕ}
-    → delay ≡ getD delays g 0 → increase ≡ getD increases g 0 → getD slacks g (pos 0) ≡ pos slack
-    → GateNumbers B x g delay increase slack
-numbers-of B x r g h d i s =
-    record { delay-is = r .delays-are g h ∙ sym d; increase-is = r .increases-are g h ∙ sym i; slack-is = r .slacks-are g h ∙ s }
-
--- one gate more
-pub gates-written : (B : Block) (x : List ℕ) (g : ℕ) {at mid next : ℕ} {old between new : List ℕ}
-    → Written (gate-lines B x g) at old between mid → Written (gate-line B x g) mid between new next
-    → Written (gate-lines B x (g + 1)) at old new next
-unfolding gate-lines
-gates-written B x g v w = rw (add-one g) (then v w)
-
-pub block-written : (B : Block) (x : List ℕ) (n : ℕ) {mid next : ℕ} {old between new : List ℕ} → gate-count B ≡ n
-    → Written (head-lines B x) 0 old between mid → Written (gate-lines B x n) mid between new next
-    → Written (block-lines B x) 0 old new next
-unfolding block-lines
-block-written B x n e v w = rw e (then v w)
+-- one gate more, whose numbers are read from the lists
+module _ (delays increases : List ℕ) (slacks : List ℤ) (g : ℕ) where
+  pub gates-written : {delay increase slack at mid next : ℕ} {old between new : List ℕ}
+      → delay ≡ getD delays g 0 → increase ≡ getD increases g 0 → getD slacks g (pos 0) ≡ pos slack
+      → Written (gate-texts (listed-line delays increases slacks) g) at old between mid
+      → Written (gate-text g delay increase (pos slack)) mid between new next
+      → Written (gate-texts (listed-line delays increases slacks) (g + 1)) at old new next
+  unfolding gate-texts
+  gates-written d i s v w = rw (add-one g) (then v (as-text (cc) w))

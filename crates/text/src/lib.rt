@@ -1,4 +1,4 @@
 // The lines of the printout, written from numbers into a lent slice of bytes.
 pub mod lines;
-pub mod number;
-pub mod pieces;
+mod number;
+mod pieces;

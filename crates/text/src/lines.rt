@@ -1,16 +1,24 @@
 // The lines of the printout: a refusal, the head of a block, and its gates.
-ghost use mathlib.Core.List.{List};
-ghost use Prim.Native.Nat.{ℕ, _+_, _*_, _≤_};
+ghost use mathlib.Core.List.{_++_};
+ghost use Prim.Native.Nat.{_+_, _*_, _≤_};
+ghost use lib.IntN.{pos};
 ghost use lib.ListN.{length};
 ghost use Rattle.model.specs.Limits.{max-gates};
-ghost use Rattle.model.specs.Block.{Block};
-ghost use Rattle.model.specs.Printout.{refusal-line, head-lines, gate-line, gate-lines, block-lines};
+ghost use Rattle.model.specs.Printout.{refusal-line, head-text, gate-text, gate-texts};
 ghost use Rattle.text.specs.Written.{Written, refusal-room, head-room, gate-room, block-room};
-ghost use Rattle.text.specs.Numbers.{HeadNumbers, GateNumbers, GatesNumbers, Listed};
+ghost use Rattle.text.specs.Numbers.{Listed, listed-line};
 use crate::number::natural;
 use crate::number::wide;
+use crate::pieces::NAMED_ROOM;
+use crate::pieces::NUMBER_ROOM;
 use crate::pieces::write_named;
 use crate::pieces::write_number;
+
+// Bytes of the head, at most (specs/Written.antt): five words, each with a number.
+pub const HEAD_ROOM: usize = 5 * NAMED_ROOM;
+
+// Bytes of the line of a gate, at most: four numbers.
+pub const GATE_ROOM: usize = 4 * NUMBER_ROOM;
 
 // Writes the line of a refusal to the front of the slice and answers its length.
 pub fn write_refusal(number: u64, place: u64, out: &mut [u8]) -> usize
@@ -21,29 +29,31 @@ pub fn write_refusal(number: u64, place: u64, out: &mut [u8]) -> usize
     write_number(place, b'\n', out, next)
 }
 
+// The numbers of a printout's head.
+pub struct Head {
+    pub gates: usize,
+    pub wires: usize,
+    pub start: u32,
+    pub spare: u32,
+    pub saving: u64,
+}
+
 // Writes the three head lines of a block's printout to the front of the slice and answers their length.
-pub fn write_head(
-    gates: u64,
-    wires: u64,
-    start: u64,
-    spare: u64,
-    saving: u64,
-    out: &mut [u8],
-) -> usize
+fn write_head(head: Head, out: &mut [u8]) -> usize
     requires { ⌜ head-room ≤ length (now out) ⌝ }
-    ensures { λ r. ⌜ (r ≤ head-room) × ((B : Block) (x : List ℕ) → HeadNumbers B x gates wires start spare saving → Written (head-lines B x) 0 (now (out .entry)) (now (out .exit)) r) ⌝ }
+    ensures { λ r. ⌜ (r ≤ head-room) × Written (head-text (head .gates) (head .wires) (head .start) (pos (head .spare)) (head .saving)) 0 (now (out .entry)) (now (out .exit)) r ⌝ }
 {
-    let mut next = write_named(b"gates ", gates, b' ', out, 0);
-    next = write_named(b"wires ", wires, b'\n', out, next);
-    next = write_named(b"start ", start, b' ', out, next);
-    next = write_named(b"spare ", spare, b'\n', out, next);
-    write_named(b"saving ", saving, b'\n', out, next)
+    let mut next = write_named(b"gates ", head.gates as u64, b' ', out, 0);
+    next = write_named(b"wires ", head.wires as u64, b'\n', out, next);
+    next = write_named(b"start ", head.start as u64, b' ', out, next);
+    next = write_named(b"spare ", head.spare as u64, b'\n', out, next);
+    write_named(b"saving ", head.saving, b'\n', out, next)
 }
 
 // Writes the line of gate g at place `at` and answers the place behind it.
-pub fn write_gate(g: u64, delay: u64, increase: u64, slack: u64, out: &mut [u8], at: usize) -> usize
+fn write_gate(g: u64, delay: u64, increase: u64, slack: u64, out: &mut [u8], at: usize) -> usize
     requires { ⌜ at + gate-room ≤ length (now out) ⌝ }
-    ensures { λ r. ⌜ (r ≤ at + gate-room) × ((B : Block) (x : List ℕ) → GateNumbers B x g delay increase slack → Written (gate-line B x g) at (now (out .entry)) (now (out .exit)) r) ⌝ }
+    ensures { λ r. ⌜ (r ≤ at + gate-room) × Written (gate-text g delay increase (pos slack)) at (now (out .entry)) (now (out .exit)) r ⌝ }
 {
     let mut next = write_number(g, b' ', out, at);
     next = write_number(delay, b' ', out, next);
@@ -52,7 +62,7 @@ pub fn write_gate(g: u64, delay: u64, increase: u64, slack: u64, out: &mut [u8],
 }
 
 // Writes the lines of the first n gates at place `at` and answers the place behind them.
-pub fn write_gates(
+fn write_gates(
     n: usize,
     delays: &[u32],
     increases: &[u32],
@@ -61,7 +71,7 @@ pub fn write_gates(
     at: usize,
 ) -> usize
     requires { ⌜ (at + gate-room * n ≤ length (now out)) × Listed n (now delays) (now increases) (now slacks) ⌝ }
-    ensures { λ r. ⌜ (r ≤ at + gate-room * n) × ((B : Block) (x : List ℕ) → GatesNumbers B x n (now (delays .entry)) (now (increases .entry)) (now (slacks .entry)) → Written (gate-lines B x n) at (now (out .entry)) (now (out .exit)) r) ⌝ }
+    ensures { λ r. ⌜ (r ≤ at + gate-room * n) × Written (gate-texts (listed-line (now (delays .entry)) (now (increases .entry)) (now (slacks .entry))) n) at (now (out .entry)) (now (out .exit)) r ⌝ }
 {
     let mut next = at;
     let mut g = 0;
@@ -79,21 +89,17 @@ pub fn write_gates(
     next
 }
 
-// Writes the printout of a block of n gates to the front of the slice and answers its length.
+// Writes the printout of a block to the front of the slice and answers its length.
 pub fn write_block(
-    n: usize,
-    wires: u64,
-    start: u64,
-    spare: u64,
-    saving: u64,
+    head: Head,
     delays: &[u32],
     increases: &[u32],
     slacks: &[i32],
     out: &mut [u8],
 ) -> usize
-    requires { ⌜ (n ≤ max-gates) × (block-room ≤ length (now out)) × Listed n (now delays) (now increases) (now slacks) ⌝ }
-    ensures { λ r. ⌜ (r ≤ block-room) × ((B : Block) (x : List ℕ) → HeadNumbers B x n wires start spare saving → GatesNumbers B x n (now (delays .entry)) (now (increases .entry)) (now (slacks .entry)) → Written (block-lines B x) 0 (now (out .entry)) (now (out .exit)) r) ⌝ }
+    requires { ⌜ (head .gates ≤ max-gates) × (block-room ≤ length (now out)) × Listed (head .gates) (now delays) (now increases) (now slacks) ⌝ }
+    ensures { λ r. ⌜ (r ≤ block-room) × Written (head-text (head .gates) (head .wires) (head .start) (pos (head .spare)) (head .saving) ++ gate-texts (listed-line (now (delays .entry)) (now (increases .entry)) (now (slacks .entry))) (head .gates)) 0 (now (out .entry)) (now (out .exit)) r ⌝ }
 {
-    let next = write_head(n as u64, wires, start, spare, saving, out);
-    write_gates(n, delays, increases, slacks, out, next)
+    let next = write_head(head, out);
+    write_gates(head.gates, delays, increases, slacks, out, next)
 }

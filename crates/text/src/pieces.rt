@@ -8,8 +8,14 @@ ghost use Rattle.decimal.specs.Placed.{placed, behind};
 ghost use Rattle.text.specs.Written.{Written, number-room, word-room, named-room};
 use decimal::write_digits;
 
+// Bytes of a number, the byte behind it counted, at most.
+pub const NUMBER_ROOM: usize = 20 + 1;
+
+// Bytes of a word, a number and the byte behind it, at most.
+pub const NAMED_ROOM: usize = 8 + NUMBER_ROOM;
+
 // Writes the bytes of a word at place `at` of the slice and answers the place behind them; where they do not fit there, writes nothing and answers `at`.
-pub fn write_bytes(word: &[u8], out: &mut [u8], at: usize) -> usize
+fn write_bytes(word: &[u8], out: &mut [u8], at: usize) -> usize
     ensures { λ r. ⌜ (r ≡ behind (now (word .entry)) at (now (out .entry))) × (now (out .exit) ≡ placed (now (word .entry)) at (now (out .entry))) ⌝ }
 {
     if out.len() < at {

@@ -1,5 +1,6 @@
 -- `printing::printout` meets its contract: no room, a refusal of 1 to 9, or the printout of the held block. Assumes nothing.
 use borrow.Author.Needs.{needs}
+use native.Mathlib.Omega.{arith}
 use Rattle.blockfile.specs.Held.{gate-arrays, wire-arrays}
 use Rattle.loading.proofs.HeldFile.{held-file}
 use Rattle.printing.proofs.Outcome.{nothing-in, printed-in}
@@ -8,7 +9,7 @@ use Rattle.printing.proofs.printout.Statement.{statement}
 use Rattle.printing.proofs.printout.Tie as tie
 
 returns : tie.Need-returns
-returns c = nothing-in (c .if1 .taken)
+returns c = nothing-in (omega arith)
 
 slice-aggregate-load : tie.Need-slice-aggregate-load
 slice-aggregate-load c = search needs

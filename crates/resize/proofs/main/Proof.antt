@@ -7,9 +7,6 @@ use Rattle.printing.proofs.Outcome.{answer-within}
 use Rattle.resize.proofs.main.Statement.{statement}
 use Rattle.resize.proofs.main.Tie as tie
 
-buffer-requires : tie.Need-buffer-requires
-buffer-requires c κs = search needs
-
 slice-aggregate-read-full : tie.Need-slice-aggregate-read-full
 slice-aggregate-read-full c = search needs
 
@@ -41,4 +38,4 @@ returns : tie.Need-returns
 returns c = search needs
 
 pub main-spec : {M : Type 1} → statement M
-main-spec = tie.close (tie.spec buffer-requires slice-aggregate-read-full read-full-requires array-share-prefix-file slice-aggregate-printout slice-aggregate-printout-2 printout-requires array-share-prefix-text slice-aggregate-write-all write-all-requires returns)
+main-spec = tie.close (tie.spec slice-aggregate-read-full read-full-requires array-share-prefix-file slice-aggregate-printout slice-aggregate-printout-2 printout-requires array-share-prefix-text slice-aggregate-write-all write-all-requires returns)

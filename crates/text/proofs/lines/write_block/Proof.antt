@@ -1,11 +1,8 @@
 -- `text::lines::write_block` meets its contract: the lines of the gates stand behind the head.
 -- Assumes nothing.
 use borrow.Author.Needs.{needs}
-use mathlib.Core.List.{List}
-use Prim.Native.Nat.{ℕ}
 use native.Mathlib.Omega.{arith}
-use Rattle.model.specs.Block.{Block}
-use Rattle.text.proofs.Printed.{block-written}
+use Rattle.text.proofs.Writing.{then}
 use Rattle.text.proofs.lines.write_block.Statement.{statement}
 use Rattle.text.proofs.lines.write_block.Tie as tie
 
@@ -19,12 +16,7 @@ same-length : tie.Need-same-length
 same-length c = search needs
 
 returns : tie.Need-returns
-returns c = let n = c .before .before .before .before .before .before .before .before .before .before .before .args .n in
-    let head = c .before .before .before .before .before .before .write-head .ensures .1 in
-    let lines = c .before .before .write-gates .ensures .1 in (
-      omega arith,
-      λ (B : Block) (x : List ℕ) numbers gates. block-written B x n (numbers .gates-are) (head B x numbers) (lines B x gates),
-    )
+returns c = (omega arith, then (c .before .before .before .before .before .before .write-head .ensures .1) (c .before .before .write-gates .ensures .1))
 
 pub write-block-spec : {M : Type 1} → statement M
 write-block-spec = tie.close (tie.spec write-head-requires write-gates-requires same-length returns)

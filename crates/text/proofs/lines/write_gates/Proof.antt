@@ -2,18 +2,16 @@
 -- Assumes nothing.
 use borrow.Author.Needs.{needs}
 use mathlib.Core.Path.{_≡_, refl, _∙_}
-use mathlib.Core.List.{List}
-use Prim.Native.Nat.{ℕ, _+_, _*_, _-_, _≤_}
+use Prim.Native.Nat.{_+_, _*_, _-_, _≤_}
 use native.Mathlib.Omega.{arith}
 use lib.ListN.{length, getD}
 use lib.IntN.{pos}
-use Rattle.model.specs.Block.{Block}
-use Rattle.model.specs.Printout.{gate-lines}
+use Rattle.model.specs.Printout.{gate-texts}
 use Rattle.text.specs.Written.{Written, gate-room}
-use Rattle.text.specs.Numbers.{GatesNumbers}
+use Rattle.text.specs.Numbers.{listed-line}
 use Rattle.text.proofs.Writing.{nothing}
 use Rattle.text.proofs.Signless.{natural-read, read-same}
-use Rattle.text.proofs.Printed.{numbers-of, gates-written}
+use Rattle.text.proofs.Printed.{gates-written}
 use Rattle.text.proofs.lines.write_gates.Statement.{statement}
 use Rattle.text.proofs.lines.write_gates.Tie as tie
 
@@ -21,15 +19,15 @@ abbrev Inv-loop : tie.InvT-loop
 Inv-loop n delays increases slacks out₀ at next₀ g₀ out next g = (g ≤ n)
     × (length out ≡ length out₀)
     × (next ≤ at + gate-room * g)
-    × ((B : Block) (x : List ℕ) → GatesNumbers B x n delays increases slacks → Written (gate-lines B x g) at out₀ out next)
+    × Written (gate-texts (listed-line delays increases slacks) g) at out₀ out next
 
 abbrev μ-loop : tie.MeasureT-loop
 μ-loop n delays increases slacks out₀ at next₀ g₀ out next g = n - g
 
 loop-holds : tie.Need-loop-holds Inv-loop μ-loop
-unfolding gate-lines
+unfolding gate-texts
 loop-holds c = let start = c .before .before .before in
-    (omega arith, refl, omega arith, λ B x numbers. nothing (start .args .at) (start .args .out .now) (omega arith))
+    (omega arith, refl, omega arith, nothing (start .args .at) (start .args .out .now) (omega arith))
 
 mul-wide : tie.Need-mul-wide Inv-loop μ-loop
 mul-wide c = search needs
@@ -79,9 +77,9 @@ loop-again c = let start = c .before .before .before .before .before .before .be
       omega arith,
       line .kept .1 .1 .1 .1 .0 ∙ loop .inv .1,
       omega (arith, line .ensures .0),
-      λ (B : Block) (x : List ℕ) numbers.
-          gates-written B x (loop .g) (loop .inv .3 B x numbers)
-          (line .ensures .1 B x (numbers-of B x numbers (loop .g) below (c .before .before .before .before .before .before .before .before .wide .ensures) (c .before .before .before .before .before .before .wide2 .ensures) no-sign)),
+      gates-written (start .args .delays .now) (start .args .increases .now) (start .args .slacks .now) (loop .g)
+          (c .before .before .before .before .before .before .before .before .wide .ensures) (c .before .before .before .before .before .before .wide2 .ensures) no-sign
+          (loop .inv .3) (line .ensures .1),
     )
 
 same-length : tie.Need-same-length Inv-loop μ-loop
@@ -89,7 +87,7 @@ same-length c = c .before .loop .inv .1
 
 returns : tie.Need-returns Inv-loop μ-loop
 returns c = let e : c .before .loop .g ≡ c .before .before .before .before .before .args .n = omega arith in
-    (omega arith, λ (B : Block) (x : List ℕ) numbers. rw e at (c .before .loop .inv .3 B x numbers))
+    (omega arith, rw e at (c .before .loop .inv .3))
 
 pub write-gates-spec : {M : Type 1} → statement M
 write-gates-spec = tie.close (tie.spec Inv-loop μ-loop loop-holds mul-wide shared-slice-read-wide wide-requires mul-wide-2 shared-slice-read-wide-2 wide-requires-2 mul-natural shared-slice-copy-out-natural natural-requires write-gate-requires add-g loop-less loop-again same-length returns)
