@@ -10,7 +10,8 @@ use Rattle.printing.proofs.block.print_block.Tie as tie
 
 returns : tie.Need-returns
 returns c = let start = c .before .before .before .before .before .before .before .before .before .before .before .before .before .before .before .before .before .before .before .before in
-    as-text (text-is (start .pre .0 .1) _ refl _ (c .before .before .before .before .before .before .write-slacks .ensures) (start .pre .1 .0) (c .before .before .before .before .before .before .before .before .start-time .ensures)) (c .before .before .write-block .ensures .1)
+    let slacks = c .before .before .before .before .before .before .write-slacks in
+    as-text (text-is (start .pre .0 .1) _ refl (slacks .last .1 .1 .1 .1 .1 .1 .1 .1 .1 .0) (slacks .ensures) (start .pre .1 .0) (c .before .before .before .before .before .before .before .before .start-time .ensures)) (c .before .before .write-block .ensures .1)
 
 start-time-requires : tie.Need-start-time-requires
 start-time-requires c κs = startable (c .before .before .before .before .before .before .before .before .before .before .before .pre .0 .1)
