@@ -9,6 +9,7 @@ use model::CurveAnswer;
 use model::JudgeAnswer;
 use model::Refusal;
 use model::SlacksAnswer;
+use model::limits::MAX_BYTES;
 use resizing::best::best_increases;
 use resizing::curve::curve;
 use resizing::judge::judge;
@@ -357,7 +358,7 @@ fn run_next(number: u64) -> bool {
     if io::read_full(0, &mut head) < 12 {
         return false;
     }
-    let mut file = [0u8; 4096];
+    let mut file = [0u8; MAX_BYTES];
     run_file(number, &head, &mut file)
 }
 
