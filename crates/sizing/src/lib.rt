@@ -1,11 +1,11 @@
 // Heads of a tree of parts in arrays, ticks handed out by them, raising, the curve, and the increases after so many ticks.
-pub mod below;
+mod below;
 pub mod curve;
-pub mod gate;
-pub mod handout;
-pub mod length;
-pub mod raise;
+mod gate;
+mod handout;
+mod length;
+mod raise;
 pub mod start;
-pub mod store;
-pub mod ticks;
-pub mod way;
+mod store;
+mod ticks;
+mod way;
