@@ -1,3 +1,4 @@
+pub mod Body
 pub mod Held
 pub mod Kinds
 pub mod Reads

@@ -2,7 +2,8 @@
 ghost use mathlib.Core.Path.{_≡_};
 ghost use Prim.Native.Nat.{_+_, _<_, _≤_};
 ghost use lib.ListN.{length};
-ghost use Rattle.model.specs.Field.{number, field-at, body-at, starts-at};
+ghost use Rattle.model.specs.Field.{number, field-at, starts-at, ends-at};
+ghost use Rattle.blockfile.specs.Body.{PartOf};
 use model::Field;
 
 // Bytes of a header: a tag and a two-byte length.
@@ -48,10 +49,9 @@ pub fn field_at(file: &[u8], offset: usize) -> Field
     }
 }
 
-// The body of the field at an offset, as the caller's own bytes; none where no whole field stands.
+// The body of the field at an offset, as the caller's own bytes: from where it begins to where it ends, and `&file[0..0]` where no whole field stands.
 pub fn field_body(file: &[u8], offset: usize) -> &[u8]
-    ensures bytes { λ r. ⌜ now r ≡ body-at (now (file .entry)) offset ⌝ }
-    ensures place { λ r. ⌜ (r .ptr .0 ≡ file .entry .ptr .0) × (r .ptr .1 ≡ starts-at (field-at (now (file .entry)) offset) + file .entry .ptr .1) ⌝ }
+    ensures { λ r. ⌜ PartOf (file .entry) (starts-at (field-at (now (file .entry)) offset)) (ends-at (field-at (now (file .entry)) offset)) r ⌝ }
 {
     let field = field_at(file, offset);
     match field {

@@ -10,7 +10,7 @@ use Rattle.blockfile.proofs.read.read_block.Tie as tie
 
 -- the block field was judged
 field-judged : (c : tie.After-block-fault) → Judged block (c .before .before .before .before .before .before .before .before .before .before .before .before .before .args .file .now) 0 (c .block-fault .result) (c .before .before .field-body .result .now)
-field-judged c = judged block _ 0 _ (c .before .due-field .result) _ (c .before .due-field .ensures) (c .before .before .field-body .ensures .0) (c .block-fault .ensures)
+field-judged c = judged block _ 0 _ (c .before .due-field .result) _ (c .before .due-field .ensures) (c .before .before .field-body .ensures .bytes) (c .block-fault .ensures)
 
 field-body-requires : tie.Need-field-body-requires
 field-body-requires c κs = search needs

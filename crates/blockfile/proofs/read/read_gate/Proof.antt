@@ -10,7 +10,7 @@ use Rattle.blockfile.proofs.read.read_gate.Tie as tie
 
 -- the field was judged
 field-judged : (c : tie.After-gate-fault) → Judged gate (c .before .before .before .before .before .before .before .before .before .args .file .now) (c .before .before .before .before .before .before .before .before .before .args .offset) (c .gate-fault .result) (c .before .before .field-body .result .now)
-field-judged c = judged gate _ _ _ (c .before .due-field .result) _ (c .before .due-field .ensures) (c .before .before .field-body .ensures .0) (c .gate-fault .ensures)
+field-judged c = judged gate _ _ _ (c .before .due-field .result) _ (c .before .due-field .ensures) (c .before .before .field-body .ensures .bytes) (c .gate-fault .ensures)
 
 field-body-requires : tie.Need-field-body-requires
 field-body-requires c κs = search needs

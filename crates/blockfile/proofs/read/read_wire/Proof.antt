@@ -13,7 +13,7 @@ use Rattle.blockfile.proofs.read.read_wire.Tie as tie
 
 -- the field was judged, after any wires that the table holds
 field-judged : (c : tie.After-wire-fault) (ws : List Wire) → Marks (c .before .before .before .before .before .before .before .before .before .args .seen .now) ws → Judged (wire (c .before .before .before .before .before .before .before .before .before .args .gates) ws) (c .before .before .before .before .before .before .before .before .before .args .file .now) (c .before .before .before .before .before .before .before .before .before .args .offset) (c .wire-fault .result) (c .before .before .before .field-body .result .now)
-field-judged c ws m = judged (wire (c .before .before .before .before .before .before .before .before .before .args .gates) ws) _ _ _ (c .before .before .due-field .result) _ (c .before .before .due-field .ensures) (c .before .before .before .field-body .ensures .0) (c .wire-fault .ensures ws m)
+field-judged c ws m = judged (wire (c .before .before .before .before .before .before .before .before .before .args .gates) ws) _ _ _ (c .before .before .due-field .result) _ (c .before .before .due-field .ensures) (c .before .before .before .field-body .ensures .bytes) (c .wire-fault .ensures ws m)
 
 field-body-requires : tie.Need-field-body-requires
 field-body-requires c κs = search needs
