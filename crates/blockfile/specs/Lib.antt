@@ -1,3 +1,4 @@
+pub mod Behind
 pub mod Body
 pub mod Held
 pub mod Kinds

@@ -15,11 +15,11 @@ use crate::fault::block_fault;
 use crate::fault::gate_fault;
 use crate::fault::refusal_of;
 use crate::fault::wire_fault;
-use crate::field::HEADER_BYTES;
-use crate::field::field_body;
 use crate::field::number_at;
 use crate::field::wide;
+use crate::reader::due_body;
 use crate::reader::due_field;
+use crate::reader::offset_behind;
 use crate::seen::clear;
 use crate::seen::mark;
 use crate::store::store_gate;
@@ -66,14 +66,14 @@ pub fn read_gate(
     requires { ⌜ GateRoom (gate-arrays (now delays) (now activities) (now counts) (now «step_widths») (now drops)) ⌝ }
     ensures { λ r. ⌜ GateRead (now (file .entry)) offset gate (gate-arrays (now (delays .entry)) (now (activities .entry)) (now (counts .entry)) (now («step_widths» .entry)) (now (drops .entry))) (gate-arrays (now (delays .exit)) (now (activities .exit)) (now (counts .exit)) (now («step_widths» .exit)) (now (drops .exit))) r ⌝ }
 {
-    let body = field_body(file, offset);
+    let body = due_body(file, offset);
     let fault = gate_fault(due_field(file, offset), body);
     if fault != 0 {
         return FieldRead::Refused(refusal_of(fault, offset));
     }
     store_gate(body, gate, delays, activities, counts, step_widths, drops);
     FieldRead::Read {
-        next: offset + HEADER_BYTES + body.len(),
+        next: offset_behind(file, offset),
     }
 }
 
@@ -134,7 +134,7 @@ pub fn read_wire(
     requires { ⌜ (pairs ≤ length (now seen)) × ((ws : List Wire) × Marks (now seen) ws) ⌝ }
     ensures { λ r. ⌜ WireRead (now (file .entry)) offset gates wire (wire-arrays (now (sources .entry)) (now (targets .entry)) (now («wire_delays» .entry))) (wire-arrays (now (sources .exit)) (now (targets .exit)) (now («wire_delays» .exit))) (now (seen .entry)) (now (seen .exit)) r ⌝ }
 {
-    let body = field_body(file, offset);
+    let body = due_body(file, offset);
     let fault = wire_fault(due_field(file, offset), body, gates, seen);
     if fault != 0 {
         return FieldRead::Refused(refusal_of(fault, offset));
@@ -144,7 +144,7 @@ pub fn read_wire(
     wire_delays[wire] = 0;
     mark(seen, body[0], body[1]);
     FieldRead::Read {
-        next: offset + HEADER_BYTES + body.len(),
+        next: offset_behind(file, offset),
     }
 }
 
@@ -227,7 +227,7 @@ pub fn read_block(
     requires { ⌜ pairs ≤ length (now seen) ⌝ }
     ensures { λ r. ⌜ block-passing (now (file .entry)) r (gate-arrays (now (delays .exit)) (now (activities .exit)) (now (counts .exit)) (now («step_widths» .exit)) (now (drops .exit))) (wire-arrays (now (sources .exit)) (now (targets .exit)) (now («wire_delays» .exit))) ≡ read-block (now (file .entry)) ⌝ }
 {
-    let body = field_body(file, 0);
+    let body = due_body(file, 0);
     let fault = block_fault(due_field(file, 0), body);
     if fault != 0 {
         return BlockRead::Refused(refusal_of(fault, 0));
@@ -235,7 +235,7 @@ pub fn read_block(
     let gates = body[1];
     let passed = read_gates(
         file,
-        HEADER_BYTES + body.len(),
+        offset_behind(file, 0),
         gates as usize,
         delays,
         activities,
