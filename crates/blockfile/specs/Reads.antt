@@ -1,5 +1,5 @@
 -- What the answers of the reading functions say, with the arrays at exit, as the `Reading` of the block file's definitions.
--- What an array holds beyond the gates and wires that were read is free, and after a refusal of several fields all of it is.
+-- Free is what the arrays hold beyond the gates and wires that were read and, where several fields are read, all that they hold after a refusal.
 use mathlib.Core.Path.{_≡_}
 use mathlib.Core.List.{List, _∷_}
 use Prim.Native.Nat.{ℕ}
@@ -24,7 +24,7 @@ use Rattle.blockfile.specs.Seen.{Marks}
 abbrev pub refusing : {A : Type 0} → Refusal → Reading A
 refusing x = refused (refusal-answer x .number) (getD (refusal-answer x .values) 0 0)
 
--- a field that was read says a, and so do several
+-- a field that was read, or several, say a
 abbrev pub passing : {A : Type 0} → FieldRead → A → Reading A
 passing (Field.Read next) a = found a next
 passing (Field.Refused x) a = refusing x

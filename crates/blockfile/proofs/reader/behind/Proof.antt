@@ -1,5 +1,5 @@
--- `blockfile::reader::behind` meets its contract: a walk of its MIR, by hand. The struct is taken apart, `next_offset` is called on the slice and the number, and a struct is made anew of the same slice and the number called for. All that the proof knows of `next_offset` is that it meets its contract.
--- The struct is Copy: what it owns is had twice for the callee and again for the result, in which the facts of the new number take the place of offset's.
+-- `blockfile::reader::behind` meets its contract: a walk of its MIR, by hand. The struct is taken apart, `next_offset` is called on the slice and the number, and a struct is made anew of the same slice and the number that came back. All that the proof knows of `next_offset` is that it meets its contract.
+-- The struct is Copy: what it owns is had for the callee, for the exit, and for the result, in which the facts of the new number take the place of offset's.
 -- Assumes nothing.
 use mathlib.Core.Path.{_≡_, refl, subst⁻¹}
 use Prim.Native.Nat.{ℕ, _<_, _^_}
