@@ -22,10 +22,11 @@ use Rattle.model.proofs.Fault.{found-is, faultless-from-0}
 use Rattle.model.proofs.Reading.{read-gates-none, read-gates-more, read-gates-refused}
 use Rattle.model.proofs.Stored as StoredGates
 use Rattle.blockfile.specs.declared.read.FieldRead.the-variants.{Read, Refused}
+use Rattle.blockfile.specs.Behind.{offset-behind}
 use Rattle.blockfile.specs.Held.{GateArrays, gate-held, gates-held, GateRoom, GateStored, GatesKept}
 use Rattle.blockfile.specs.Reads.{GateRead, reading-map, refusing}
 use Rattle.blockfile.proofs.Stores.{kept-all}
-use Rattle.blockfile.proofs.Judged.{Judged, judged-refused, judged-found}
+use Rattle.blockfile.proofs.Judged.{Judged, read-not-refused, judged-refused, judged-found}
 
 -- nothing was stored
 gates-same : (g : ℕ) (A : GateArrays) → GatesKept g A A
@@ -40,10 +41,10 @@ gates-same g A =
 
 module _ {s : List ℕ} {o n : ℕ} {b : List ℕ} (j : Judged gate s o n b) (g : ℕ) where
   pub gate-refused : (A : GateArrays) (x : Refusal) → (n ≡ 0 → ⊥) → refusal-answer x ≡ refusal n o → GateRead s o g A A (Refused x)
-  gate-refused A x z e = record { reading = ap (reading-map gate-of) (judged-refused j x z e); kept = gates-same g A }
+  gate-refused A x z e = record { reading = ap (reading-map gate-of) (judged-refused j x z e); kept = gates-same g A; untouched = λ y f. refl }
 
-  pub gate-found : (old new : GateArrays) → n ≡ 0 → GateStored b g old new → GateRead s o g old new (Read (o + 3 + length b))
-  gate-found old new z r = record { reading = rw (judged-found j z, r .stored); kept = r .kept }
+  pub gate-found : (old new : GateArrays) (q : ℕ) → n ≡ 0 → GateStored b g old new → q ≡ offset-behind s o → GateRead s o g old new (Read q)
+  gate-found old new q z r e = record { reading = rw (judged-found j z, r .stored, e); kept = r .kept; untouched = λ x f. absurd (read-not-refused q x f) }
 
 -- what was found or refused before it was seen through f
 module _ {A B : Type 0} (f : A → B) where

@@ -3,7 +3,7 @@
 use mathlib.Core.Path.{_≡_, refl, sym, _∙_}
 use mathlib.Core.Bool.{true}
 use mathlib.Core.List.{List}
-use Prim.Native.Nat.{ℕ, zero, suc, _+_, _≤_}
+use Prim.Native.Nat.{ℕ, zero, suc, _≤_}
 use native.Mathlib.Omega.{arith}
 use lib.ListN.{length}
 use Rattle.lists.proofs.Bool.{is-true}
@@ -12,9 +12,17 @@ use Rattle.model.specs.declared.Refusal.{Refusal}
 use Rattle.model.specs.Field.{field-at, body-at, body-to}
 use Rattle.model.specs.File.{Due, found, refused, length-fits, says, in-range, fault-of, fault, read-field}
 use Rattle.model.specs.Answer.{refusal, refusal-answer}
-use Rattle.model.proofs.Fields.{length-body}
+use Rattle.model.proofs.Fields.{whole}
 use Rattle.model.proofs.Fault.{faultless-from-0, fault-at-most-6, read-found, read-refused}
+use Rattle.blockfile.specs.declared.read.FieldRead.the-variants.{Read, Refused}
+use Rattle.blockfile.specs.Behind.{offset-behind}
 use Rattle.blockfile.specs.Reads.{refusing}
+
+-- what was read was not refused
+pub read-not-refused : (q : ℕ) (x : Refusal) → Read q ≡ Refused x → ⊥
+read-not-refused q x e =
+    let z : _≡_ {A = ℕ} 0 1 = cc in
+    omega arith
 
 -- n is the fault of the field at o, where k is due; b is its body
 pub record Judged (k : Due) (s : List ℕ) (o n : ℕ) (b : List ℕ) : Type 0 where
@@ -42,18 +50,18 @@ module _ {k : Due} {s : List ℕ} {o n : ℕ} {b : List ℕ} (j : Judged k s o n
     faultless = sym (j .fault-is) ∙ z
 
     -- a field without a fault ends within the file ..
-    pub judged-end : body-to s o ≡ o + 3 + length b
-    judged-end = let e = length-body s o (faultless-from-0 k s o faultless .inside) in rw (j .body-is, e)
+    judged-end : offset-behind s o ≡ body-to s o
+    judged-end = rw (whole s o (faultless-from-0 k s o faultless .inside))
 
-    pub judged-inside : o + 3 + length b ≤ length s
-    judged-inside = let h = faultless-from-0 k s o faultless .inside in omega (arith, judged-end)
+    pub judged-inside : offset-behind s o ≤ length s
+    judged-inside = rw judged-end (faultless-from-0 k s o faultless .inside)
 
     -- .. has one of its lengths ..
     pub judged-fits : length-fits k (length b) ≡ true
     judged-fits = rw (j .body-is) (is-true (length-fits k (length (body-at s o))) (faultless-from-0 k s o faultless .length-due))
 
     -- .. and is what its body says
-    pub judged-found : read-field k s o ≡ found (says k b) (o + 3 + length b)
+    pub judged-found : read-field k s o ≡ found (says k b) (offset-behind s o)
     judged-found = read-found k s o faultless ∙ rw (judged-end, j .body-is)
 
     -- .. has its numbers in range ..

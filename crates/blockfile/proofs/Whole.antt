@@ -1,10 +1,9 @@
 -- The whole file: what its block field, its gates and its wires were read to, is what `read-block` says.
 -- Assumes nothing.
-use mathlib.Core.Path.{_≡_, sym, _∙_, ap}
+use mathlib.Core.Path.{_≡_, sym}
 use mathlib.Core.Bool.{_&&_}
 use mathlib.Core.List.{List, [], map}
-use Prim.Native.Nat.{ℕ, _+_, _≤_}
-use native.Mathlib.Omega.{arith}
+use Prim.Native.Nat.{ℕ, _≤_}
 use borrow.Author.Tests.{eqb-true}
 use lib.Dec.{T, leb, eqb, leb→le}
 use lib.ListN.{length, getD}
@@ -18,6 +17,7 @@ use Rattle.model.specs.File.{block, says, in-range, found, read-field, read-gat
 use Rattle.model.specs.Activity.{activity}
 use Rattle.model.specs.Answer.{refusal, refusal-answer}
 use Rattle.model.proofs.Reading.{read-gates-inside, decode-block-refused, decode-gates-refused, decode-wires-refused, decode-found}
+use Rattle.blockfile.specs.Behind.{offset-behind}
 use Rattle.blockfile.specs.Reads.{refusing, reading-map}
 use Rattle.blockfile.proofs.Judged.{Judged, judged-refused, judged-fits, judged-found, judged-inside, judged-ranges}
 use Rattle.blockfile.proofs.Gates.{FoundBefore, map-found, map-refused}
@@ -54,35 +54,32 @@ module _ {s : List ℕ} {m : ℕ} {b : List ℕ} (j : Judged block s 0 m b) wher
         leb→le (getD b 1 0) 64
         (and-right (one && least) most (and-left (one && least && most) arrival (and-left (one && least && most && arrival) deadline (and-left (one && least && most && arrival && deadline) p t))))
 
-    pub gates-from : 3 + length b ≤ length s
-    gates-from = let h = judged-inside j z in omega arith
+    -- the gates begin behind the block field
+    module _ {p : ℕ} (behind : p ≡ offset-behind s 0) where
+      header : read-field block s 0 ≡ found (says block b) p
+      header = rw behind (judged-found j z)
 
-    header : read-field block s 0 ≡ found (says block b) (3 + length b)
-    header =
-        let e : 0 + 3 + length b ≡ 3 + length b = omega arith in
-        judged-found j z ∙ ap (found (says block b)) e
+      -- a gate is refused
+      pub block-gates-refused : (x : Refusal) → refusing x ≡ reading-map (map gate-of) (read-gates (getD b 1 0) s p) → refusing x ≡ read-block s
+      block-gates-refused x e =
+          whole-refused s x
+          (decode-gates-refused s header (map-refused (map gate-of) (read-gates (getD b 1 0) s p) (refusal-answer x .number) (getD (refusal-answer x .values) 0 0) e))
 
-    -- a gate is refused
-    pub block-gates-refused : (x : Refusal) → refusing x ≡ reading-map (map gate-of) (read-gates (getD b 1 0) s (3 + length b)) → refusing x ≡ read-block s
-    block-gates-refused x e =
-        whole-refused s x
-        (decode-gates-refused s header (map-refused (map gate-of) (read-gates (getD b 1 0) s (3 + length b)) (refusal-answer x .number) (getD (refusal-answer x .values) 0 0) e))
+      module _ (gs : List Gate) (q : ℕ) (g : found gs q ≡ reading-map (map gate-of) (read-gates (getD b 1 0) s p)) where
+        drawn : FoundBefore (map gate-of) (read-gates (getD b 1 0) s p) gs q
+        drawn = map-found (map gate-of) (read-gates (getD b 1 0) s p) gs q g
 
-    module _ (gs : List Gate) (q : ℕ) (g : found gs q ≡ reading-map (map gate-of) (read-gates (getD b 1 0) s (3 + length b))) where
-      drawn : FoundBefore (map gate-of) (read-gates (getD b 1 0) s (3 + length b)) gs q
-      drawn = map-found (map gate-of) (read-gates (getD b 1 0) s (3 + length b)) gs q g
+        -- the wires begin within the file
+        pub wires-from : q ≤ length s
+        wires-from = read-gates-inside s (getD b 1 0) p (rw behind (judged-inside j z)) (drawn .was-found)
 
-      -- the wires begin within the file
-      pub wires-from : q ≤ length s
-      wires-from = read-gates-inside s (getD b 1 0) (3 + length b) gates-from (drawn .was-found)
+        -- a wire is refused
+        pub block-wires-refused : (x : Refusal) → refusing x ≡ read-wires max-wires (getD b 1 0) [] s q → refusing x ≡ read-block s
+        block-wires-refused x e = whole-refused s x (decode-wires-refused s header (drawn .was-found) (sym e))
 
-      -- a wire is refused
-      pub block-wires-refused : (x : Refusal) → refusing x ≡ read-wires max-wires (getD b 1 0) [] s q → refusing x ≡ read-block s
-      block-wires-refused x e = whole-refused s x (decode-wires-refused s header (drawn .was-found) (sym e))
-
-      -- the block is found
-      pub block-found : (ws : List Wire) → found ws (length s) ≡ read-wires max-wires (getD b 1 0) [] s q
-          → found (record { arrival = number b 2; deadline = number b 4; activity = activity (number b 6); gates = gs; wires = ws }) (length s) ≡ read-block s
-      block-found ws e =
-          rw (drawn .seen)
-          (whole-found s (netlist (says block b) (drawn .value) ws) (length s) (decode-found s header (drawn .was-found) (sym e)))
+        -- the block is found
+        pub block-found : (ws : List Wire) → found ws (length s) ≡ read-wires max-wires (getD b 1 0) [] s q
+            → found (record { arrival = number b 2; deadline = number b 4; activity = activity (number b 6); gates = gs; wires = ws }) (length s) ≡ read-block s
+        block-found ws e =
+            rw (drawn .seen)
+            (whole-found s (netlist (says block b) (drawn .value) ws) (length s) (decode-found s header (drawn .was-found) (sym e)))

@@ -20,12 +20,13 @@ use Rattle.model.proofs.Fault.{found-inside}
 use Rattle.model.proofs.Reading as Reading
 use Rattle.model.proofs.Stored.{build-more}
 use Rattle.blockfile.specs.declared.read.FieldRead.the-variants.{Read, Refused}
+use Rattle.blockfile.specs.Behind.{offset-behind}
 use Rattle.blockfile.specs.Held.{WireArrays, wire-arrays, wire-held, wires-held, WireRoom}
 use Rattle.blockfile.specs.Reads.{WireRead, refusing}
 use Rattle.blockfile.specs.Seen.{between, Marks}
 use Rattle.blockfile.proofs.Pairs.{ends-below}
 use Rattle.blockfile.proofs.Stores.{kept-all, kept-set}
-use Rattle.blockfile.proofs.Judged.{Judged, judged-refused, judged-fits, judged-found, judged-ranges}
+use Rattle.blockfile.proofs.Judged.{Judged, read-not-refused, judged-refused, judged-fits, judged-found, judged-ranges}
 
 -- a wire field without fault has two bytes, and names two gates of the block
 pub record TwoGates (n : ℕ) (b : List ℕ) : Type 0 where
@@ -43,28 +44,26 @@ module _ {s : List ℕ} {o n m i : ℕ} {b : List ℕ} {table : List ℕ} (j : (
   wire-refused A x z e =
       record {
         reading = λ (ws : List Wire) (h : Marks table ws). judged-refused (j ws h) x z e;
-        marked = λ ws h next f. absurd (never next f);
+        marked = λ ws h next f. absurd (read-not-refused next x (sym f));
         kept = record { sources = kept-all i (A .sources); targets = kept-all i (A .targets); delays = kept-all i (A .delays) };
+        untouched = λ y f. (refl, refl);
       }
-    where
-      never : (next : ℕ) → Refused x ≡ Read next → ⊥
-      never next f =
-          let z : _≡_ {A = ℕ} 0 1 = cc in
-          omega arith
 
-  pub wire-found : (ss ts ds table′ : List ℕ) (x y : ℕ) → i < length ss → i < length ts → i < length ds → x ≡ getD b 0 0 → y ≡ getD b 1 0
+  pub wire-found : (ss ts ds table′ : List ℕ) (x y q : ℕ) → i < length ss → i < length ts → i < length ds → x ≡ getD b 0 0 → y ≡ getD b 1 0
       → ((ws : List Wire) → Marks table ws → Marks table′ (between (getD b 0 0) (getD b 1 0) ∷ ws))
       → m ≡ 0
-      → WireRead s o n i (wire-arrays ss ts ds) (wire-arrays (set ss i x) (set ts i y) (set ds i 0)) table table′ (Read (o + 3 + length b))
-  wire-found ss ts ds table′ x y hs ht hd ex ey more z =
+      → q ≡ offset-behind s o
+      → WireRead s o n i (wire-arrays ss ts ds) (wire-arrays (set ss i x) (set ts i y) (set ds i 0)) table table′ (Read q)
+  wire-found ss ts ds table′ x y q hs ht hd ex ey more z eq =
       record {
-        reading = λ (ws : List Wire) (h : Marks table ws). rw held (sym (judged-found (j ws h) z));
+        reading = λ (ws : List Wire) (h : Marks table ws). rw (held, eq) (sym (judged-found (j ws h) z));
         marked = λ (ws : List Wire) (h : Marks table ws) next e. rw held (more ws h);
         kept = record {
           sources = kept-set i ss ss i x (omega arith) (kept-all i ss);
           targets = kept-set i ts ts i y (omega arith) (kept-all i ts);
           delays = kept-set i ds ds i 0 (omega arith) (kept-all i ds);
         };
+        untouched = λ x′ f. absurd (read-not-refused q x′ f);
       }
     where
       held : wire-held (wire-arrays (set ss i x) (set ts i y) (set ds i 0)) i ≡ between (getD b 0 0) (getD b 1 0)

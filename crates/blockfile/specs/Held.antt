@@ -76,14 +76,14 @@ pub record WiresKept (i : ℕ) (old new : WireArrays) : Type 0 where
   pub targets : Kept i (old .targets) (new .targets)
   pub delays : Kept i (old .delays) (new .delays)
 
--- The steps are stored as those of gate g, `count` of them, and those of the gates below are as they were.
+-- The steps are stored as those of gate g, `count` of them, and those of the gates below are as they were. What stands above them is free.
 pub record StepsStored (steps : List ℕ) (g count : ℕ) (old-widths old-drops new-widths new-drops : List ℕ) : Type 0 where
   pub most : count ≤ max-steps
   pub stored : build count (step-at new-widths new-drops g) ≡ steps-in steps
   pub widths-kept : Kept (g * max-steps) old-widths new-widths
   pub drops-kept : Kept (g * max-steps) old-drops new-drops
 
--- The body is stored as gate g, and the gates below are as they were.
+-- The body is stored as gate g, and the gates below are as they were. What stands above gate g is free.
 pub record GateStored (body : List ℕ) (g : ℕ) (old new : GateArrays) : Type 0 where
   pub stored : gate-held new g ≡ gate-of (says gate body)
   pub kept : GatesKept g old new

@@ -1,3 +1,5 @@
+pub mod Behind
+pub mod Body
 pub mod Held
 pub mod Kinds
 pub mod Reads

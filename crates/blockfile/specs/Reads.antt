@@ -1,4 +1,5 @@
 -- What the answers of the reading functions say, with the arrays at exit, as the `Reading` of the block file's definitions.
+-- Free is what the arrays hold beyond the gates and wires that were read and, where several fields are read, all that they hold after a refusal.
 use mathlib.Core.Path.{_≡_}
 use mathlib.Core.List.{List, _∷_}
 use Prim.Native.Nat.{ℕ}
@@ -23,7 +24,7 @@ use Rattle.blockfile.specs.Seen.{Marks}
 abbrev pub refusing : {A : Type 0} → Refusal → Reading A
 refusing x = refused (refusal-answer x .number) (getD (refusal-answer x .values) 0 0)
 
--- a field that was read says a
+-- a field that was read, or several, say a
 abbrev pub passing : {A : Type 0} → FieldRead → A → Reading A
 passing (Field.Read next) a = found a next
 passing (Field.Refused x) a = refusing x
@@ -33,16 +34,18 @@ abbrev pub reading-map : {A B : Type 0} → (A → B) → Reading A → Reading 
 reading-map f (found a o) = found (f a) o
 reading-map f (refused k o) = refused k o
 
--- The gate field at o was read into place g, and the gates below are as they were.
+-- The gate field at o was read into place g, and the gates below are as they were; after a refusal all is. What stands above gate g, once it is read, is free.
 pub record GateRead (s : List ℕ) (o g : ℕ) (old new : GateArrays) (r : FieldRead) : Type 0 where
   pub reading : passing r (gate-held new g) ≡ reading-map gate-of (read-field gate s o)
   pub kept : GatesKept g old new
+  pub untouched : (x : Refusal) → r ≡ Field.Refused x → new ≡ old
 
--- The wire field at o was read into place i, after the wires that the table holds, and the wires below are as they were.
+-- The wire field at o was read into place i, after the wires that the table holds, and the wires below are as they were; after a refusal all is, the table too. What stands above wire i, once it is read, is free.
 pub record WireRead (s : List ℕ) (o n i : ℕ) (old new : WireArrays) (table table′ : List ℕ) (r : FieldRead) : Type 0 where
   pub reading : (ws : List Wire) → Marks table ws → passing r (wire-held new i) ≡ read-field (wire n ws) s o
   pub marked : (ws : List Wire) → Marks table ws → (next : ℕ) → r ≡ Field.Read next → Marks table′ (wire-held new i ∷ ws)
   pub kept : WiresKept i old new
+  pub untouched : (x : Refusal) → r ≡ Field.Refused x → (new ≡ old) × (table′ ≡ table)
 
 -- the first wires of the arrays, up to the end of the file
 abbrev pub wires-passing : List ℕ → WiresRead → WireArrays → Reading (List Wire)

@@ -21,6 +21,6 @@ pair-place a b = max-gates * a + b
 abbrev pub between : ℕ → ℕ → Wire
 between a b = record { source = a; target = b; delay = 0 }
 
--- The table is 0 at exactly those pairs that no wire of the list joins.
+-- The table is 0 at exactly those pairs that no wire of the list joins. Which other number stands at the rest, and what stands beyond the pairs, is free.
 pub record Marks (table : List ℕ) (ws : List Wire) : Type 0 where
   pub at-pair : (a b : ℕ) → a < max-gates → b < max-gates → eqb (getD table (pair-place a b) 0) 0 ≡ not (some (same-ends (between a b)) ws)

@@ -1,5 +1,4 @@
 // The number of a field's refusal, 0 if it has none, in document 01's order: short header (1), tag (2), length (3), short body (1), range (4), drops (5), wire (6).
-// These functions are public for `read` alone.
 ghost use mathlib.Core.Path.{_≡_};
 ghost use mathlib.Core.List.{List};
 ghost use Prim.Native.Nat.{_≤_};
@@ -28,13 +27,15 @@ use model::Refusal;
 pub fn tag_fault(due: Due, tag: u8, length: usize, further: u32) -> u32
     ensures { λ r. ⌜ r ≡ unless (eqb tag (tag-of (kind due))) 2 (unless (length-fits (kind due) length) 3 further) ⌝ }
 {
-    if tag != tag_of(due) {
+    let due_tag = tag == tag_of(due);
+    let due_length = length_fits(due, length);
+    if !due_tag {
         return 2;
     }
-    if length_fits(due, length) {
-        return further;
+    if !due_length {
+        return 3;
     }
-    3
+    further
 }
 
 // The fault that a field shows by its header, with the length of its body.

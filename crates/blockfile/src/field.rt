@@ -1,12 +1,14 @@
-// The fields of a block file, on a slice and an offset. `field_at` and `field_body` take any file and any offset; the other two are public for the crate's own files.
+// The fields of a block file, on a slice and an offset: the core of the field reader, for any file and any offset. `wide` and `number_at` read numbers, and are public for the programs that run stored cases too.
 ghost use mathlib.Core.Path.{_≡_};
 ghost use Prim.Native.Nat.{_+_, _<_, _≤_};
 ghost use lib.ListN.{length};
-ghost use Rattle.model.specs.Field.{number, field-at, body-at, starts-at};
+ghost use Rattle.model.specs.Field.{number, field-at};
+ghost use Rattle.blockfile.specs.Behind.{offset-behind};
+ghost use Rattle.blockfile.specs.Body.{BodyOf};
 use model::Field;
 
 // Bytes of a header: a tag and a two-byte length.
-pub const HEADER_BYTES: usize = 3;
+const HEADER_BYTES: usize = 3;
 
 // A byte as a wider number.
 pub fn wide(x: u8) -> u32
@@ -48,15 +50,30 @@ pub fn field_at(file: &[u8], offset: usize) -> Field
     }
 }
 
-// The body of the field at an offset, as the caller's own bytes; none where no whole field stands.
+// The body of the field at an offset, as the caller's own bytes: from where it begins to where it ends, and `&file[0..0]` where no whole field stands.
 pub fn field_body(file: &[u8], offset: usize) -> &[u8]
-    ensures bytes { λ r. ⌜ now r ≡ body-at (now (file .entry)) offset ⌝ }
-    ensures place { λ r. ⌜ (r .ptr .0 ≡ file .entry .ptr .0) × (r .ptr .1 ≡ starts-at (field-at (now (file .entry)) offset) + file .entry .ptr .1) ⌝ }
+    ensures { λ r. ⌜ BodyOf (file .entry) offset r ⌝ }
 {
     let field = field_at(file, offset);
     match field {
         Field::Whole { tag: _, from, to } => &file[from..to],
         Field::NoHeader => &file[..0],
         Field::NoBody { tag: _, length: _ } => &file[..0],
+    }
+}
+
+// The offset behind the field at an offset: the field's end, and the offset itself where no whole field stands.
+pub fn next_offset(file: &[u8], offset: usize) -> usize
+    ensures { λ r. ⌜ r ≡ offset-behind (now (file .entry)) offset ⌝ }
+{
+    let field = field_at(file, offset);
+    match field {
+        Field::Whole {
+            tag: _,
+            from: _,
+            to,
+        } => to,
+        Field::NoHeader => offset,
+        Field::NoBody { tag: _, length: _ } => offset,
     }
 }

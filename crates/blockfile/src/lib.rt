@@ -1,8 +1,8 @@
 // Reading a block file into numbers: the fields, their faults (refusals 1 to 7), and the whole file into lent arrays.
-pub mod fault;
+mod fault;
 pub mod field;
-pub mod limits;
+mod limits;
 pub mod read;
 pub mod reader;
-pub mod seen;
-pub mod store;
+mod seen;
+mod store;

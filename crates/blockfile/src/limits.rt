@@ -1,5 +1,4 @@
 // Tags, lengths and ranges of the fields of edition 1. They stand here and nowhere else in the code, but for the numbers of gates, steps and wires (`model::limits`).
-// These functions are public for `fault`, `store` and `read` alone.
 ghost use mathlib.Core.Path.{_≡_};
 ghost use mathlib.Core.Bool.{true};
 ghost use mathlib.Core.List.{[]};

@@ -1,5 +1,5 @@
 // A block file read into lent arrays, one field after another: refusals 1 to 7.
-// These functions are public for the crates above, which lend the arrays.
+// `read_block` is public for the crates above, which lend the arrays.
 ghost use mathlib.Core.Path.{_≡_};
 ghost use mathlib.Core.List.{List, [], map};
 ghost use Prim.Native.Nat.{_<_, _≤_};
@@ -15,11 +15,11 @@ use crate::fault::block_fault;
 use crate::fault::gate_fault;
 use crate::fault::refusal_of;
 use crate::fault::wire_fault;
-use crate::field::HEADER_BYTES;
-use crate::field::field_body;
 use crate::field::number_at;
 use crate::field::wide;
+use crate::reader::due_body;
 use crate::reader::due_field;
+use crate::reader::offset_behind;
 use crate::seen::clear;
 use crate::seen::mark;
 use crate::store::store_gate;
@@ -28,13 +28,13 @@ use model::activity::activity_of;
 use model::limits::MAX_WIRES;
 
 // A field, or several, were read up to an offset, or refused.
-pub enum FieldRead {
+enum FieldRead {
     Read { next: usize },
     Refused(Refusal),
 }
 
 // The wires were read up to the end of the file, or refused.
-pub enum WiresRead {
+enum WiresRead {
     Read { wires: usize },
     Refused(Refusal),
 }
@@ -51,8 +51,8 @@ pub enum BlockRead {
     Refused(Refusal),
 }
 
-// The gate field at an offset, read into place `gate`.
-pub fn read_gate(
+// The gate field at an offset, read into place `gate`. After a refusal every array is as it was; after reading, what the arrays hold above the gate is free.
+fn read_gate(
     file: &[u8],
     offset: usize,
     gate: usize,
@@ -66,19 +66,19 @@ pub fn read_gate(
     requires { ⌜ GateRoom (gate-arrays (now delays) (now activities) (now counts) (now «step_widths») (now drops)) ⌝ }
     ensures { λ r. ⌜ GateRead (now (file .entry)) offset gate (gate-arrays (now (delays .entry)) (now (activities .entry)) (now (counts .entry)) (now («step_widths» .entry)) (now (drops .entry))) (gate-arrays (now (delays .exit)) (now (activities .exit)) (now (counts .exit)) (now («step_widths» .exit)) (now (drops .exit))) r ⌝ }
 {
-    let body = field_body(file, offset);
+    let body = due_body(file, offset);
     let fault = gate_fault(due_field(file, offset), body);
     if fault != 0 {
         return FieldRead::Refused(refusal_of(fault, offset));
     }
     store_gate(body, gate, delays, activities, counts, step_widths, drops);
     FieldRead::Read {
-        next: offset + HEADER_BYTES + body.len(),
+        next: offset_behind(file, offset),
     }
 }
 
-// So many gate fields from an offset on, read into the places from 0 on.
-pub fn read_gates(
+// So many gate fields from an offset on, read into the places from 0 on. After a refusal, and beyond these gates, what the arrays hold is free.
+fn read_gates(
     file: &[u8],
     start: usize,
     gates: usize,
@@ -118,8 +118,8 @@ pub fn read_gates(
     FieldRead::Read { next: offset }
 }
 
-// The wire field at an offset, read into place `wire`, after the wires that the table holds.
-pub fn read_wire(
+// The wire field at an offset, read into place `wire`, after the wires that the table holds. After a refusal every array is as it was; after reading, what the arrays hold above the wire is free.
+fn read_wire(
     file: &[u8],
     offset: usize,
     gates: u8,
@@ -134,7 +134,7 @@ pub fn read_wire(
     requires { ⌜ (pairs ≤ length (now seen)) × ((ws : List Wire) × Marks (now seen) ws) ⌝ }
     ensures { λ r. ⌜ WireRead (now (file .entry)) offset gates wire (wire-arrays (now (sources .entry)) (now (targets .entry)) (now («wire_delays» .entry))) (wire-arrays (now (sources .exit)) (now (targets .exit)) (now («wire_delays» .exit))) (now (seen .entry)) (now (seen .exit)) r ⌝ }
 {
-    let body = field_body(file, offset);
+    let body = due_body(file, offset);
     let fault = wire_fault(due_field(file, offset), body, gates, seen);
     if fault != 0 {
         return FieldRead::Refused(refusal_of(fault, offset));
@@ -144,12 +144,12 @@ pub fn read_wire(
     wire_delays[wire] = 0;
     mark(seen, body[0], body[1]);
     FieldRead::Read {
-        next: offset + HEADER_BYTES + body.len(),
+        next: offset_behind(file, offset),
     }
 }
 
-// The wire fields from an offset on until the bytes end, read into the places from 0 on.
-pub fn read_wires(
+// The wire fields from an offset on until the bytes end, read into the places from 0 on. After a refusal, and beyond these wires, what the arrays hold is free, and so is the table `seen`.
+fn read_wires(
     file: &[u8],
     start: usize,
     gates: u8,
@@ -196,7 +196,7 @@ pub fn read_wires(
 }
 
 // What the body of the block field says of a block with so many wires.
-pub fn block_said(body: &[u8], wires: usize) -> BlockRead
+fn block_said(body: &[u8], wires: usize) -> BlockRead
     requires { ⌜ length (now body) ≡ 8 ⌝ }
     ensures { λ r. ⌜ r ≡ said-of (now (body .entry)) wires ⌝ }
 {
@@ -209,7 +209,7 @@ pub fn block_said(body: &[u8], wires: usize) -> BlockRead
     }
 }
 
-// A block file read into the arrays: the block that they hold, or the first refusal of 1 to 7.
+// A block file read into the arrays: the block that they hold, or the first refusal of 1 to 7. After a refusal, and beyond the gates and wires of the file, what the arrays hold is free, and so is the table `seen`.
 pub fn read_block(
     file: &[u8],
     delays: &mut [u32],
@@ -227,7 +227,7 @@ pub fn read_block(
     requires { ⌜ pairs ≤ length (now seen) ⌝ }
     ensures { λ r. ⌜ block-passing (now (file .entry)) r (gate-arrays (now (delays .exit)) (now (activities .exit)) (now (counts .exit)) (now («step_widths» .exit)) (now (drops .exit))) (wire-arrays (now (sources .exit)) (now (targets .exit)) (now («wire_delays» .exit))) ≡ read-block (now (file .entry)) ⌝ }
 {
-    let body = field_body(file, 0);
+    let body = due_body(file, 0);
     let fault = block_fault(due_field(file, 0), body);
     if fault != 0 {
         return BlockRead::Refused(refusal_of(fault, 0));
@@ -235,7 +235,7 @@ pub fn read_block(
     let gates = body[1];
     let passed = read_gates(
         file,
-        HEADER_BYTES + body.len(),
+        offset_behind(file, 0),
         gates as usize,
         delays,
         activities,

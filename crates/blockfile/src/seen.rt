@@ -1,5 +1,4 @@
 // The pairs of gates that wires have joined, as a table of bytes: the byte at 64 times the source plus the target is not 0 once a wire stood there.
-// These functions are public for `fault` and `read` alone.
 ghost use mathlib.Core.Path.{_≡_};
 ghost use mathlib.Core.List.{List, [], _∷_};
 ghost use Prim.Native.Nat.{_<_, _≤_};

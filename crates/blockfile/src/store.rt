@@ -1,5 +1,4 @@
 // Storing what a gate's body says, in arrays: gate g at place g, step j of gate g at place 8 g + j.
-// These functions are public for `read` alone.
 ghost use mathlib.Core.Path.{_≡_};
 ghost use mathlib.Core.Bool.{true};
 ghost use Prim.Native.Nat.{_*_, _<_, _≤_, _%_};

@@ -3,17 +3,17 @@
 use borrow.Author.Needs.{needs}
 use native.Mathlib.Omega.{arith}
 use Rattle.model.specs.File.{gate}
-use Rattle.blockfile.proofs.Judged.{Judged, judged, at-most-6, judged-inside, judged-fits}
+use Rattle.blockfile.proofs.Judged.{Judged, judged, at-most-6, judged-fits}
 use Rattle.blockfile.proofs.Gates.{gate-refused, gate-found}
 use Rattle.blockfile.proofs.read.read_gate.Statement.{statement}
 use Rattle.blockfile.proofs.read.read_gate.Tie as tie
 
 -- the field was judged
-field-judged : (c : tie.After-gate-fault) → Judged gate (c .before .before .before .before .before .before .before .before .before .args .file .now) (c .before .before .before .before .before .before .before .before .before .args .offset) (c .gate-fault .result) (c .before .before .field-body .result .now)
-field-judged c = judged gate _ _ _ (c .before .due-field .result) _ (c .before .due-field .ensures) (c .before .before .field-body .ensures .0) (c .gate-fault .ensures)
+field-judged : (c : tie.After-gate-fault) → Judged gate (c .before .before .before .before .before .before .before .before .before .args .file .now) (c .before .before .before .before .before .before .before .before .before .args .offset) (c .gate-fault .result) (c .before .before .due-body .result .now)
+field-judged c = judged gate _ _ _ (c .before .due-field .result) _ (c .before .due-field .ensures) (c .before .before .due-body .ensures .bytes) (c .gate-fault .ensures)
 
-field-body-requires : tie.Need-field-body-requires
-field-body-requires c κs = search needs
+due-body-requires : tie.Need-due-body-requires
+due-body-requires c κs = search needs
 
 due-field-requires : tie.Need-due-field-requires
 due-field-requires c κs = search needs
@@ -36,50 +36,41 @@ store-gate-requires c κs =
     let start = at-gate-fault .before .before .before .before .before .before .before .before .before in
     (judged-fits (field-judged at-gate-fault) (at-if1 .if1 .left), (start .pre .0, start .pre .1))
 
-add-t25 : tie.Need-add-t25
-add-t25 c =
-    let at-if1 = c .before .before .before .before .before .before .before .before .before .before .before .before .before .before .before .before in
-    let at-gate-fault = at-if1 .before in
-    omega (arith, judged-inside (field-judged at-gate-fault) (at-if1 .if1 .left))
-
-add-t27 : tie.Need-add-t27
-add-t27 c =
-    let at-if1 = c .before .before .before .before .before .before .before .before .before .before .before .before .before .before .before .before in
-    let at-gate-fault = at-if1 .before in
-    omega (arith, judged-inside (field-judged at-gate-fault) (at-if1 .if1 .left))
+offset-behind-requires : tie.Need-offset-behind-requires
+offset-behind-requires c κs = search needs
 
 same-length : tie.Need-same-length
 same-length c =
-    let at-store-gate = c .before .before .before .before .before .before .before .before .before .before in
+    let at-store-gate = c .before .before .before .before .before .before .before .before .before .before .before in
     at-store-gate .store-gate .kept .1 .1 .0
 
 same-length-2 : tie.Need-same-length-2
 same-length-2 c =
-    let at-store-gate = c .before .before .before .before .before .before .before .before .before .before in
+    let at-store-gate = c .before .before .before .before .before .before .before .before .before .before .before in
     at-store-gate .store-gate .kept .1 .1 .1 .0
 
 same-length-3 : tie.Need-same-length-3
 same-length-3 c =
-    let at-store-gate = c .before .before .before .before .before .before .before .before .before .before in
+    let at-store-gate = c .before .before .before .before .before .before .before .before .before .before .before in
     at-store-gate .store-gate .kept .1 .1 .1 .1 .0
 
 same-length-4 : tie.Need-same-length-4
 same-length-4 c =
-    let at-store-gate = c .before .before .before .before .before .before .before .before .before .before in
+    let at-store-gate = c .before .before .before .before .before .before .before .before .before .before .before in
     at-store-gate .store-gate .kept .1 .1 .1 .1 .1 .0
 
 same-length-5 : tie.Need-same-length-5
 same-length-5 c =
-    let at-store-gate = c .before .before .before .before .before .before .before .before .before .before in
+    let at-store-gate = c .before .before .before .before .before .before .before .before .before .before .before in
     at-store-gate .store-gate .kept .1 .1 .1 .1 .1 .1 .0
 
 returns-2 : tie.Need-returns-2
 returns-2 c =
-    let at-store-gate = c .before .before .before .before .before .before .before .before .before .before in
+    let at-store-gate = c .before .before .before .before .before .before .before .before .before .before .before in
     let at-if1 = at-store-gate .before .before .before .before .before .before in
     let at-gate-fault = at-if1 .before in
     let start = at-gate-fault .before .before .before .before .before .before .before .before .before in
-    gate-found (field-judged at-gate-fault) (start .args .gate) _ _ (at-if1 .if1 .left) (at-store-gate .store-gate .ensures)
+    gate-found (field-judged at-gate-fault) (start .args .gate) _ _ _ (at-if1 .if1 .left) (at-store-gate .store-gate .ensures) (c .offset-behind .ensures)
 
 pub read-gate-spec : {M : Type 1} → statement M
-read-gate-spec = tie.close (tie.spec field-body-requires due-field-requires gate-fault-requires refusal-of-requires returns store-gate-requires add-t25 add-t27 same-length same-length-2 same-length-3 same-length-4 same-length-5 returns-2)
+read-gate-spec = tie.close (tie.spec due-body-requires due-field-requires gate-fault-requires refusal-of-requires returns store-gate-requires offset-behind-requires same-length same-length-2 same-length-3 same-length-4 same-length-5 returns-2)

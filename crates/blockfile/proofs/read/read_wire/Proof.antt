@@ -6,17 +6,17 @@ use native.Mathlib.Omega.{arith}
 use Rattle.model.specs.Block.{Wire}
 use Rattle.model.specs.File.{wire}
 use Rattle.blockfile.specs.Seen.{Marks}
-use Rattle.blockfile.proofs.Judged.{Judged, judged, at-most-6, judged-inside}
+use Rattle.blockfile.proofs.Judged.{Judged, judged, at-most-6}
 use Rattle.blockfile.proofs.Wires.{two-gates, wire-refused, wire-found}
 use Rattle.blockfile.proofs.read.read_wire.Statement.{statement}
 use Rattle.blockfile.proofs.read.read_wire.Tie as tie
 
 -- the field was judged, after any wires that the table holds
-field-judged : (c : tie.After-wire-fault) (ws : List Wire) → Marks (c .before .before .before .before .before .before .before .before .before .args .seen .now) ws → Judged (wire (c .before .before .before .before .before .before .before .before .before .args .gates) ws) (c .before .before .before .before .before .before .before .before .before .args .file .now) (c .before .before .before .before .before .before .before .before .before .args .offset) (c .wire-fault .result) (c .before .before .before .field-body .result .now)
-field-judged c ws m = judged (wire (c .before .before .before .before .before .before .before .before .before .args .gates) ws) _ _ _ (c .before .before .due-field .result) _ (c .before .before .due-field .ensures) (c .before .before .before .field-body .ensures .0) (c .wire-fault .ensures ws m)
+field-judged : (c : tie.After-wire-fault) (ws : List Wire) → Marks (c .before .before .before .before .before .before .before .before .before .args .seen .now) ws → Judged (wire (c .before .before .before .before .before .before .before .before .before .args .gates) ws) (c .before .before .before .before .before .before .before .before .before .args .file .now) (c .before .before .before .before .before .before .before .before .before .args .offset) (c .wire-fault .result) (c .before .before .before .due-body .result .now)
+field-judged c ws m = judged (wire (c .before .before .before .before .before .before .before .before .before .args .gates) ws) _ _ _ (c .before .before .due-field .result) _ (c .before .before .due-field .ensures) (c .before .before .before .due-body .ensures .bytes) (c .wire-fault .ensures ws m)
 
-field-body-requires : tie.Need-field-body-requires
-field-body-requires c κs = search needs
+due-body-requires : tie.Need-due-body-requires
+due-body-requires c κs = search needs
 
 due-field-requires : tie.Need-due-field-requires
 due-field-requires c κs = search needs
@@ -92,19 +92,8 @@ mark-requires c κs =
     let start = at-wire-fault .before .before .before .before .before .before .before .before .before in
     (start .pre .1 .1 .0, (omega (arith, two-gates (field-judged at-wire-fault (start .pre .1 .1 .1 .0) (start .pre .1 .1 .1 .1)) (at-if1 .if1 .left) .source, start .pre .0 .0), omega (arith, two-gates (field-judged at-wire-fault (start .pre .1 .1 .1 .0) (start .pre .1 .1 .1 .1)) (at-if1 .if1 .left) .target, start .pre .0 .0)))
 
-add-t19 : tie.Need-add-t19
-add-t19 c =
-    let at-if1 = c .before .before .before .before .before .before .before .before .before .before in
-    let at-wire-fault = at-if1 .before in
-    let start = at-wire-fault .before .before .before .before .before .before .before .before .before in
-    omega (arith, judged-inside (field-judged at-wire-fault (start .pre .1 .1 .1 .0) (start .pre .1 .1 .1 .1)) (at-if1 .if1 .left))
-
-add-t31 : tie.Need-add-t31
-add-t31 c =
-    let at-if1 = c .before .before .before .before .before .before .before .before .before .before in
-    let at-wire-fault = at-if1 .before in
-    let start = at-wire-fault .before .before .before .before .before .before .before .before .before in
-    omega (arith, judged-inside (field-judged at-wire-fault (start .pre .1 .1 .1 .0) (start .pre .1 .1 .1 .1)) (at-if1 .if1 .left))
+offset-behind-requires : tie.Need-offset-behind-requires
+offset-behind-requires c κs = search needs
 
 same-length-2 : tie.Need-same-length-2
 same-length-2 c = search needs
@@ -120,12 +109,12 @@ same-length-5 c = search needs
 
 returns-2 : tie.Need-returns-2
 returns-2 c =
-    let at-wide2 = c .before .before .before .before .before .before in
+    let at-wide2 = c .before .before .before .before .before .before .before in
     let at-wide = at-wide2 .before .before in
     let at-if1 = at-wide .before .before in
     let at-wire-fault = at-if1 .before in
     let start = at-wire-fault .before .before .before .before .before .before .before .before .before in
-    wire-found (field-judged at-wire-fault) _ _ _ _ _ _ (omega (arith, start .pre .1 .0 .sources, start .pre .0 .1)) (omega (arith, start .pre .1 .0 .targets, start .pre .0 .1)) (omega (arith, start .pre .1 .0 .delays, start .pre .0 .1)) (at-wide .wide .ensures .0) (at-wide2 .wide2 .ensures .0) (c .before .before .mark .ensures) (at-if1 .if1 .left)
+    wire-found (field-judged at-wire-fault) _ _ _ _ _ _ _ (omega (arith, start .pre .1 .0 .sources, start .pre .0 .1)) (omega (arith, start .pre .1 .0 .targets, start .pre .0 .1)) (omega (arith, start .pre .1 .0 .delays, start .pre .0 .1)) (at-wide .wide .ensures .0) (at-wide2 .wide2 .ensures .0) (c .before .before .before .mark .ensures) (at-if1 .if1 .left) (c .offset-behind .ensures)
 
 pub read-wire-spec : {M : Type 1} → statement M
-read-wire-spec = tie.close (tie.spec field-body-requires due-field-requires wire-fault-requires refusal-of-requires same-length returns shared-slice-read-wide wide-requires mul-sources slice-write-sources shared-slice-read-wide-2 wide-requires-2 mul-targets slice-write-targets mul-wire-delays slice-write-wire-delays shared-slice-read-mark shared-slice-read-mark-2 mark-requires add-t19 add-t31 same-length-2 same-length-3 same-length-4 same-length-5 returns-2)
+read-wire-spec = tie.close (tie.spec due-body-requires due-field-requires wire-fault-requires refusal-of-requires same-length returns shared-slice-read-wide wide-requires mul-sources slice-write-sources shared-slice-read-wide-2 wide-requires-2 mul-targets slice-write-targets mul-wire-delays slice-write-wire-delays shared-slice-read-mark shared-slice-read-mark-2 mark-requires offset-behind-requires same-length-2 same-length-3 same-length-4 same-length-5 returns-2)
