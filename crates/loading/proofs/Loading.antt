@@ -14,10 +14,11 @@ use Rattle.blockfile.specs.Held.{GateArrays, WireArrays, WireRoom}
 use Rattle.blockfile.specs.Reads.{block-passing}
 use Rattle.network.specs.declared.Network.{Network}
 use Rattle.network.specs.declared.Network.the-variants.{Sound, Loop, Ends}
+use Rattle.network.specs.Wires.{Lent, InArrays}
 use Rattle.network.specs.Order.{Order}
 use Rattle.network.specs.Judged.{Judged}
 use Rattle.network.proofs.Wires.{wired-joined}
-use Rattle.loading.proofs.Held.{gates-are, in-arrays}
+use Rattle.loading.proofs.Held.{gates-are, lent, in-arrays}
 use Rattle.loading.specs.Loads.{block-held, loaded-as, number-of, place-of, Loads}
 
 -- a file that was not read
@@ -45,16 +46,27 @@ order-for {E} {F} {k} {n} {order} e leads o =
     })
 
 module _ (file : List ℕ) (n m arrival deadline activity : ℕ) (G : GateArrays) (W : WireArrays) (e : block-passing file (Whole.Read n m arrival deadline activity) G W ≡ read-block file) where
-  abbrev pub the-block : Block
+  abbrev the-block : Block
   the-block = block-held n m arrival deadline activity G W
 
-  pub read-as : read-block file ≡ found the-block (length file)
+  read-as : read-block file ≡ found the-block (length file)
   read-as = sym e
 
-  pub loaded : (order : List ℕ) (net : Network) → Judged the-block order net → Loads file (loaded-as n m arrival deadline activity net) G W order
-  loaded order Sound j = (
-    record { end = length file; reads = sym e; network = j .0 },
-    order-for (gates-are file n m arrival deadline activity G W (length file) read-as) (wired-joined the-block n m (W .sources) (W .targets) (in-arrays file n m arrival deadline activity G W (length file) read-as)) (j .1),
+  arrays-hold : InArrays the-block n m (W .sources) (W .targets)
+  arrays-hold = in-arrays file n m arrival deadline activity G W (length file) read-as
+
+  pub lent-read : WireRoom W → Lent n m (W .sources) (W .targets)
+  lent-read = lent file n m arrival deadline activity G W (length file) read-as
+
+  as-judged : (order : List ℕ) (net : Network) → Judged the-block order net → Loads file (loaded-as n m arrival deadline activity net) G W order
+  as-judged order Sound j = (
+    record { end = length file; reads = read-as; network = j .0 },
+    order-for (gates-are file n m arrival deadline activity G W (length file) read-as) (wired-joined the-block n m (W .sources) (W .targets) arrays-hold) (j .1),
   )
-  loaded order (Loop g) j = loop the-block (length file) (sym e) j refl
-  loaded order (Ends g) j = ends the-block (length file) (sym e) (j .0) (j .1) refl
+  as-judged order (Loop g) j = loop the-block (length file) read-as j refl
+  as-judged order (Ends g) j = ends the-block (length file) read-as (j .0) (j .1) refl
+
+  pub loaded : (order : List ℕ) (net : Network)
+      → ((B : Block) → InArrays B n m (W .sources) (W .targets) → Judged B order net)
+      → Loads file (loaded-as n m arrival deadline activity net) G W order
+  loaded order net j = as-judged order net (j the-block arrays-hold)

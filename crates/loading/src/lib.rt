@@ -90,7 +90,7 @@ pub fn load(
             deadline,
             activity,
         } => {
-            let network = judge_network(gates, wires, sources, targets, 0, gates - 1, order);
+            let network = judge_network(gates, wires, sources, targets, order);
             judged(gates, wires, arrival, deadline, activity, network)
         }
     }
