@@ -1,9 +1,9 @@
 // The network of a block: refusal 8 (a gate reaches itself), refusal 9 (a gate is at fault with its wires), and an order of the gates along the wires.
 // Every function here is public only for the crates above. `sources` and `targets` hold the gates that each of the `m` wires joins; wire delays play no part.
-pub mod ends;
-pub mod loops;
+mod ends;
+mod loops;
 pub mod marking;
-pub mod ordering;
+mod ordering;
 
 ghost use Prim.Native.Nat.{_≤_};
 ghost use lib.ListN.{length};
@@ -13,7 +13,7 @@ ghost use Rattle.network.specs.Order.{SameBeyond};
 ghost use Rattle.network.specs.Judged.{Judged};
 
 // Refusal 9 alone.
-pub enum Faults {
+pub(crate) enum Faults {
     // No gate is at fault with its wires.
     Nowhere,
     // The lowest gate at fault.

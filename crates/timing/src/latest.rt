@@ -10,7 +10,7 @@ use crate::number::larger;
 
 // The latest time at which a wire has brought its signal to gate g; `base` where no wire leads there.
 // Each wire into the gate is looked at once. (`targets` is there for the promise.)
-pub fn latest_into(
+fn latest_into(
     g: usize,
     n: usize,
     m: usize,
