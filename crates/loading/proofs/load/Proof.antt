@@ -110,7 +110,7 @@ returns-2 c =
     let deadline = told .0 .1 .1 .1 .0 in
     let activity = told .0 .1 .1 .1 .1 .0 in
     let judge = c .before .before .before .judge-network in
-    rw (c .judged .ensures) (loaded file n m arrival deadline activity G W (rw (told .1) at (read .ensures)) (judge .last .1 .1 .1 .1 .0) (judge .result) (judge .ensures .0))
+    rw (c .judged .ensures) (loaded file n m arrival deadline activity G W (rw (told .1) at (read .ensures)) _ (judge .last .1 .1 .1 .1 .0) (judge .result) (judge .ensures .0) (judge .ensures .1))
 
 pub load-spec : {M : Type 1} → statement M
 load-spec = tie.close (tie.spec slice-aggregate-read-block read-block-requires enum-known-read enum-known-read-2 judge-network-requires judged-requires same-length same-length-2 same-length-3 same-length-4 same-length-5 same-length-6 same-length-7 same-length-8 returns same-length-9 same-length-10 same-length-11 same-length-12 same-length-13 same-length-14 same-length-15 same-length-16 same-length-17 returns-2)
