@@ -22,7 +22,8 @@ use Rattle.blockfile.specs.Held.{GateArrays, WireArrays}
 use Rattle.network.specs.Wires.{Lent}
 use Rattle.timing.specs.Start.{Startable, StartIs}
 use Rattle.timing.proofs.Found.{along}
-use Rattle.gains.specs.Activities.{Summable, InputActivities}
+use Rattle.network.proofs.Front.{front-at}
+use Rattle.gains.specs.Activities.{input-in, Summable, InputActivities}
 use Rattle.gains.proofs.Activities.{input-is, held-activity}
 use Rattle.loading.specs.Loads.{block-held}
 use Rattle.loading.specs.HeldFile.{HeldFile}
@@ -123,7 +124,8 @@ module _ {file : List ℕ} {n m arrival deadline activity : ℕ} {G : GateArrays
         out-long = the-lent .gates;
       }
 
-  pub inputs-are : (inputs : List ℕ) → InputActivities n m (W .sources) (W .targets) (G .activities) 0 activity inputs
+  pub inputs-are : (inputs : List ℕ) → InputActivities n m (W .sources) (W .targets) (G .activities) 0 activity (no-increase max-gates) inputs
       → (g : ℕ) → g < n → getD inputs g 0 ≡ input-activity block g
   inputs-are inputs right g b =
-      right g b ∙ input-is block n m (W .sources) (W .targets) (W .delays) (G .delays) (G .activities) (G .counts) (G .step-widths) (G .drops) refl refl the-lent g
+      front-at n (input-in m (W .sources) (W .targets) (G .activities) 0 activity) (no-increase max-gates) inputs right g b
+      ∙ input-is block n m (W .sources) (W .targets) (W .delays) (G .delays) (G .activities) (G .counts) (G .step-widths) (G .drops) refl refl the-lent g

@@ -8,6 +8,7 @@ use lib.ListN.{length, take}
 use lib.Seq.{length-take-le, getD-take}
 use Rattle.lists.proofs.Over.{build-same}
 use Rattle.model.specs.Limits.{max-gates}
+use Rattle.model.specs.InTime.{no-increase}
 use Rattle.model.specs.InTime.{drawn}
 use Rattle.model.specs.Slack.{start}
 use Rattle.model.specs.Arrays.{gate-at}
@@ -38,14 +39,14 @@ module _
     {order : List ℕ}
     (h : HeldFile file n m arrival deadline activity G W order)
     {c : ℕ}
-    {A : Plot}
-    (p : PlantedBlock (block h) c A)
+    {before A : Plot}
+    (p : PlantedBlock (block h) c before A)
   where
     tree-is : IsTree (block h) (as-tree (p .tree))
     tree-is = subst (IsTree (block h)) (sym (p .is-tree)) (block-is-tree (block h) (p .fits) (join (block h) (the-limits h) (h .well .network)))
 
     module _ (long : NodesLong A) (inputs : List ℕ) (inputs-long : length inputs ≡ max-gates)
-        (right : InputActivities n m (W .sources) (W .targets) (G .activities) 0 activity inputs) {r : ℕ} (is : r ≡ start (block h)) (small : r ≤ time-bound) where
+        (right : InputActivities n m (W .sources) (W .targets) (G .activities) 0 activity (no-increase max-gates) inputs) {r : ℕ} (is : r ≡ start (block h)) (small : r ≤ time-bound) where
       abbrev C : Plot
       C = cut c A
 

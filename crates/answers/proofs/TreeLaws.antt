@@ -1,23 +1,21 @@
 -- What a block whose tree stands in node arrays gives the functions of sizing: all that they ask, and what their results are to the block.
 -- Assumes nothing.
 use mathlib.Core.Path.{_≡_, refl, sym, _∙_, ap}
-use mathlib.Core.Logic.{_⊎_, inl, inr}
 use mathlib.Core.List.{List, map}
 use Prim.Native.Nat.{ℕ, _+_, _-_, _*_, _^_, _≤_, _<_, max}
 use native.Mathlib.Nat.{mul-le-mul-right}
 use native.Mathlib.Omega.{arith}
 use lib.ListN.{length, getD, length-map, length-replicate, List·getD-map}
-use lib.Seq.{ext-getD}
 use Rattle.lists.specs.Sum.{sum}
 use Rattle.lists.specs.Over.{over}
 use Rattle.lists.proofs.Sum.{sum-same, sum-le}
-use Rattle.lists.proofs.Over.{length-build, getD-build, length-over, getD-over-front, getD-over-behind}
-use Rattle.lists.proofs.Compare.{le-or-lt}
+use Rattle.lists.proofs.Over.{length-build, getD-build}
 use Rattle.model.specs.Limits.{max-gates, max-steps, max-width, max-pairs, max-activity, max-drop}
 use Rattle.model.specs.Block.{Block, gate, gate-count}
 use Rattle.model.specs.Gain.{saving}
 use Rattle.model.specs.Curve.{Pair}
 use Rattle.model.specs.InTime.{no-increase}
+use Rattle.network.proofs.Front.{is-over}
 use Rattle.gains.specs.Steps as Gains
 use Rattle.gains.specs.Savings.{Earnable, ListSaving, most-of-gate}
 use Rattle.gains.proofs.Sums.{sum-constant}
@@ -64,18 +62,6 @@ empty-places : (n : ℕ) → Places (empty n) n
 empty-places n =
     let l = length-replicate {A = ℕ} n 0 in
     record { widths-long = omega arith; gains-long = omega arith; ranks-long = omega arith }
-
--- a list whose first elements are those of xs and whose others are as in `old`
-pub is-over : (xs old new : List ℕ) → length xs ≤ length old → length new ≡ length old
-    → ((i : ℕ) → i < length xs → getD new i 0 ≡ getD xs i 0)
-    → ((i : ℕ) → length xs ≤ i → getD new i 0 ≡ getD old i 0)
-    → new ≡ over xs old
-is-over xs old new fits same front behind =
-    ext-getD 0 new (over xs old) (same ∙ sym (length-over xs old fits)) (λ i h. go i (le-or-lt (length xs) i))
-  where
-    go : (i : ℕ) → (length xs ≤ i) ⊎ (i < length xs) → getD new i 0 ≡ getD (over xs old) i 0
-    go i (inl l) = behind i l ∙ sym (getD-over-behind xs old i 0 l)
-    go i (inr l) = front i l ∙ sym (getD-over-front xs old i 0 l)
 
 module _ {B : Block} {n : ℕ} {A : TreeArrays} (h : TreeHeld B n A) where
   abbrev heads : ℕ → ℕ → Head

@@ -1,4 +1,4 @@
 // The saving curve in two lent slices: a position on it, and ticks counted off its front.
 pub mod count;
-pub mod number;
+mod number;
 pub mod position;

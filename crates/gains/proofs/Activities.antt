@@ -10,18 +10,20 @@ use native.Mathlib.Nat.{add-zero}
 use native.Mathlib.Decide.{ℕ-discrete}
 use native.Mathlib.Omega.{arith}
 use lib.Dec.{eqb}
-use lib.ListN.{length, getD, set}
+use lib.ListN.{length, getD, set, length-set}
 use lib.Seq.{getD-set-same, getD-set-other}
 use borrow.Author.Tests.{eq-eqb, ne-eqb}
 use Rattle.lists.specs.Sum.{sum, total}
 use Rattle.lists.proofs.Sum.{sum-same}
-use Rattle.lists.proofs.Over.{getD-build}
+use Rattle.lists.specs.Over.{build, over}
+use Rattle.lists.proofs.Over.{getD-build, over-more}
 use Rattle.model.specs.Limits.{max-activity}
 use Rattle.model.specs.Block.{Gate, Block, gate, no-gate}
 use Rattle.model.specs.Gain.{brings, input-activity}
 use Rattle.model.specs.Arrays.{wire-at, wires-in, gate-at, gates-in}
 use Rattle.network.specs.Wires.{Lent}
-use Rattle.gains.specs.Activities.{max-input, brought, brought-by, input-in, Summable, Brought, InputActivities}
+use Rattle.network.proofs.Front.{set-beyond, front-at, front-beyond, front-written}
+use Rattle.gains.specs.Activities.{max-input, brought, brought-by, input-in, Summable, InputActivities}
 use Rattle.gains.proofs.Sums.{sum-bounded, total-build}
 
 pub cond-at-most : (b : Bool) (x y most : ℕ) → x ≤ most → y ≤ most → cond b x y ≤ most
@@ -44,6 +46,10 @@ module _ (n m : ℕ) (sources targets activities : List ℕ) (lent : Lent n m so
       (omega (arith, brought-bounded m g (omega arith), lent .wires))
 
 -- WIRE AFTER WIRE
+-- the first n elements of `out` are sums over the first i wires in
+abbrev pub Brought : ℕ → ℕ → List ℕ → List ℕ → List ℕ → List ℕ → Type 0
+Brought n i sources targets activities out = (g : ℕ) → g < n → getD out g 0 ≡ brought-by i sources targets activities g
+
 -- the next sum fits
 pub sum-fits : (n m : ℕ) (sources targets activities lent-out : List ℕ)
     → Summable n m sources targets activities lent-out
@@ -84,12 +90,8 @@ module _ (n i : ℕ) (sources targets activities out : List ℕ) (so-far : Broug
           rw (add-one i, getD-set-other out target g (getD out target 0 + getD activities source 0) 0 u, ne-eqb (getD targets i 0) g (λ (t : getD targets i 0 ≡ g). u (sym t ∙ sym f)), so-far g h, add-zero)
 
 -- CLEARING
-pub cleared-more : (g : ℕ) (out : List ℕ) → g < length out → ((h : ℕ) → h < g → getD out h 0 ≡ 0) → (h : ℕ) → h < g + 1 → getD (set out g 0) h 0 ≡ 0
-cleared-more g out long zeros h l = by (ℕ-discrete h g)
-  where
-    by : Dec (h ≡ g) → getD (set out g 0) h 0 ≡ 0
-    by (yes s) = rw (s, getD-set-same out g 0 0 long)
-    by (no u) = getD-set-other out g h 0 0 u ∙ zeros h (omega arith)
+pub cleared-more : (g : ℕ) (before out : List ℕ) → g < length before → out ≡ over (build g (λ (h : ℕ). 0)) before → set out g 0 ≡ over (build (g + 1) (λ (h : ℕ). 0)) before
+cleared-more g before out room e = rw e (over-more g (λ (h : ℕ). 0) before room)
 
 pub brought-none : (n : ℕ) (sources targets activities out : List ℕ) → ((g : ℕ) → g < n → getD out g 0 ≡ 0) → Brought n 0 sources targets activities out
 unfolding sum
@@ -106,15 +108,23 @@ still-summable n m sources targets activities out cleared s e =
     }
 
 -- the first gate's is the input's own
-pub input-set : (n m : ℕ) (sources targets activities : List ℕ) (first input : ℕ) (out : List ℕ)
-    → first < length out
-    → Brought n m sources targets activities out
-    → InputActivities n m sources targets activities first input (set out first input)
-input-set n m sources targets activities first input out long sums g h = by (ℕ-discrete g first)
+pub input-set : (n m : ℕ) (sources targets activities : List ℕ) (first input : ℕ) (before cleared out : List ℕ)
+    → first < n
+    → n ≤ length before
+    → length out ≡ length before
+    → cleared ≡ over (build n (λ (g : ℕ). 0)) before
+    → out ≡ over (build n (brought-by m sources targets activities)) cleared
+    → InputActivities n m sources targets activities first input before (set out first input)
+input-set n m sources targets activities first input before cleared out below room long zeros sums =
+    front-written n (input-in m sources targets activities first input) before (set out first input) room (length-set out first input ∙ long)
+    (λ (g : ℕ) (h : g < n). by g h (ℕ-discrete g first))
+    (set-beyond n first input before out below
+    (λ (i : ℕ) (h : n ≤ i). front-beyond n (brought-by m sources targets activities) cleared out sums i h ∙ front-beyond n (λ (g : ℕ). 0) before cleared zeros i h))
   where
-    by : Dec (g ≡ first) → getD (set out first input) g 0 ≡ input-in m sources targets activities first input g
-    by (yes s) = rw (eq-eqb g first s, s, getD-set-same out first input 0 long)
-    by (no u) = rw (ne-eqb g first u, getD-set-other out first g input 0 u) (sums g h)
+    by : (g : ℕ) → g < n → Dec (g ≡ first) → getD (set out first input) g 0 ≡ input-in m sources targets activities first input g
+    by g h (yes s) = rw (eq-eqb g first s, s, getD-set-same out first input 0 (omega arith))
+    by g h (no u) =
+        rw (ne-eqb g first u, getD-set-other out first g input 0 u) (front-at n (brought-by m sources targets activities) cleared out sums g h)
 
 -- the arrays' input activities are those of the block that they hold
 module _ (B : Block) (n m : ℕ) (sources targets wire-delays delays activities counts step-widths drops : List ℕ)

@@ -6,6 +6,7 @@ use Prim.Native.Nat.{ℕ, _*_, _≤_, _<_}
 use lib.Dec.{eqb}
 use lib.ListN.{length, getD}
 use Rattle.lists.specs.Sum.{sum}
+use Rattle.lists.specs.Over.{build, over}
 use Rattle.model.specs.Limits.{max-wires, max-activity}
 use Rattle.network.specs.Wires.{Lent}
 
@@ -32,11 +33,7 @@ pub record Summable (n m : ℕ) (sources targets activities out : List ℕ) : Ty
   pub activity-small : (g : ℕ) → g < n → getD activities g 0 ≤ max-activity
   pub out-long : n ≤ length out
 
--- The first n elements of `out` are sums over the first m wires in.
-abbrev pub Brought : ℕ → ℕ → List ℕ → List ℕ → List ℕ → List ℕ → Type 0
-Brought n m sources targets activities out = (g : ℕ) → g < n → getD out g 0 ≡ brought-by m sources targets activities g
-
--- The first n elements of `out` are the gates' input activities.
-abbrev pub InputActivities : ℕ → ℕ → List ℕ → List ℕ → List ℕ → ℕ → ℕ → List ℕ → Type 0
-InputActivities n m sources targets activities first input out =
-    (g : ℕ) → g < n → getD out g 0 ≡ input-in m sources targets activities first input g
+-- The first n elements of `out` are the gates' input activities, all others are as in `before`.
+abbrev pub InputActivities : ℕ → ℕ → List ℕ → List ℕ → List ℕ → ℕ → ℕ → List ℕ → List ℕ → Type 0
+InputActivities n m sources targets activities first input before out =
+    out ≡ over (build n (input-in m sources targets activities first input)) before

@@ -3,12 +3,13 @@ use network::marking::at;
 ghost use mathlib.Core.Path.{_≡_};
 ghost use Prim.Native.Nat.{ℕ, _≤_, _<_};
 ghost use lib.ListN.{length, getD};
-ghost use Rattle.gains.specs.Activities.{Summable, Brought, InputActivities};
+ghost use Rattle.lists.specs.Over.{build, over};
+ghost use Rattle.gains.specs.Activities.{brought-by, Summable, InputActivities};
 
 // Sets the first n elements to 0.
 fn clear(n: usize, out: &mut [u32])
     requires { ⌜ n ≤ length (now out) ⌝ }
-    ensures { λ r. ⌜ ((g : ℕ) → g < n → getD (now (out .exit)) g 0 ≡ 0) ⌝ }
+    ensures { λ r. ⌜ now (out .exit) ≡ over (build n (λ (g : ℕ). 0)) (now (out .entry)) ⌝ }
 {
     let mut g: usize = 0;
     while g < n {
@@ -27,7 +28,7 @@ fn add_wires(
     out: &mut [u32],
 )
     requires { ⌜ Summable n m (now sources) (now targets) (now activities) (now out) × ((g : ℕ) → g < n → getD (now out) g 0 ≡ 0) ⌝ }
-    ensures { λ r. ⌜ Brought n m (now (sources .entry)) (now (targets .entry)) (now (activities .entry)) (now (out .exit)) ⌝ }
+    ensures { λ r. ⌜ now (out .exit) ≡ over (build n (brought-by m (now (sources .entry)) (now (targets .entry)) (now (activities .entry)))) (now (out .entry)) ⌝ }
 {
     let mut i: usize = 0;
     while i < m {
@@ -38,7 +39,7 @@ fn add_wires(
     }
 }
 
-// The input activity of each of n gates: the sum over its wires in; for gate `first` it is `input`.
+// The input activity of each of n gates, to the front of `out`: the sum over its wires in; for gate `first` it is `input`.
 pub fn input_activities(
     n: usize,
     m: usize,
@@ -50,7 +51,7 @@ pub fn input_activities(
     out: &mut [u32],
 )
     requires { ⌜ Summable n m (now sources) (now targets) (now activities) (now out) × (first < n) ⌝ }
-    ensures { λ r. ⌜ InputActivities n m (now (sources .entry)) (now (targets .entry)) (now (activities .entry)) first input (now (out .exit)) ⌝ }
+    ensures { λ r. ⌜ InputActivities n m (now (sources .entry)) (now (targets .entry)) (now (activities .entry)) first input (now (out .entry)) (now (out .exit)) ⌝ }
 {
     clear(n, out);
     add_wires(n, m, sources, targets, activities, out);

@@ -24,7 +24,7 @@ fn step_saving(ticks: u32, drop: u32, activity: u32) -> u64
 }
 
 // What the first `increase` ticks of gate g earn at this input activity: step by step, and nothing beyond the widths.
-pub fn gate_saving(
+fn gate_saving(
     g: usize,
     increase: u32,
     counts: &[u32],

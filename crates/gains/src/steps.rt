@@ -11,7 +11,7 @@ ghost use Rattle.model.specs.Arrays.{step-place};
 ghost use Rattle.gains.specs.Steps.{widths-in, WidthsLent, Held, LowestExceeding};
 
 // The place of step j of gate g.
-pub fn place_of(g: usize, j: usize) -> usize
+pub(crate) fn place_of(g: usize, j: usize) -> usize
     requires { ⌜ (g < max-gates) × (j < max-steps) ⌝ }
     ensures { λ r. ⌜ r ≡ step-place g j ⌝ }
 {
@@ -19,7 +19,7 @@ pub fn place_of(g: usize, j: usize) -> usize
 }
 
 // The sum of the widths of gate g.
-pub fn widths_of(g: usize, counts: &[u32], step_widths: &[u32]) -> u32
+fn widths_of(g: usize, counts: &[u32], step_widths: &[u32]) -> u32
     requires { ⌜ WidthsLent (now counts) (now «step_widths») g ⌝ }
     ensures { λ r. ⌜ r ≡ widths-in (now (counts .entry)) (now («step_widths» .entry)) g ⌝ }
 {

@@ -1,8 +1,8 @@
 -- What a block that a file holds is in the arrays: as many gates and wires, each number within its limits, each wire between two gates.
 -- Assumes nothing.
-use mathlib.Core.Path.{_≡_, refl, sym, subst, ap}
+use mathlib.Core.Path.{_≡_, refl, subst, ap}
 use mathlib.Core.List.{List}
-use Prim.Native.Nat.{ℕ, _-_, _≤_, _<_}
+use Prim.Native.Nat.{ℕ, _≤_, _<_}
 use native.Mathlib.Omega.{arith}
 use lib.ListN.{length, getD}
 use Rattle.lists.proofs.Over.{length-build, getD-build}
@@ -12,7 +12,7 @@ use Rattle.model.specs.Arrays.{wire-at, gate-at}
 use Rattle.model.specs.File.{found, read-block}
 use Rattle.model.proofs.Limited.{BlockLimits, read-limits}
 use Rattle.blockfile.specs.Held.{GateArrays, WireArrays, WireRoom}
-use Rattle.network.specs.Wires.{Lent, InArrays, EndsAt}
+use Rattle.network.specs.Wires.{Lent, InArrays}
 use Rattle.loading.specs.Loads.{block-held}
 
 module _ (file : List ℕ) (n m arrival deadline activity : ℕ) (G : GateArrays) (W : WireArrays) (o : ℕ) (reads : read-block file ≡ found (block-held n m arrival deadline activity G W) o) where
@@ -54,9 +54,6 @@ module _ (file : List ℕ) (n m arrival deadline activity : ℕ) (G : GateArrays
 
   pub in-arrays : InArrays B n m (W .sources) (W .targets)
   in-arrays = record { delays = W .delays; gates = gates-are; wires = refl }
-
-  pub ends-at : EndsAt B 0 (n - 1)
-  ends-at = record { from = refl; to = ap (λ (k : ℕ). k - 1) (sym gates-are) }
 
   -- gate g, as the arrays have it
   pub gate-is : (g : ℕ) → g < n → gate B g ≡ gate-at (G .delays) (G .activities) (G .counts) (G .step-widths) (G .drops) g

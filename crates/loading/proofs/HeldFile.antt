@@ -20,7 +20,7 @@ module _ (file : List ℕ) (n m arrival deadline activity : ℕ) (G : GateArrays
   abbrev B : Block
   B = block-held n m arrival deadline activity G W
 
-  pub held-file : WellFormed file B × Order (Wired m (W .sources) (W .targets)) n order
+  pub held-file : {Beyond : Type 0} → WellFormed file B × Order (Wired m (W .sources) (W .targets)) n order × Beyond
       → length (G .delays) ≡ max-gates
       → length (G .activities) ≡ max-gates
       → length (G .counts) ≡ max-gates

@@ -14,10 +14,11 @@ use Rattle.blockfile.specs.Held.{GateArrays, WireArrays, WireRoom}
 use Rattle.blockfile.specs.Reads.{block-passing}
 use Rattle.network.specs.declared.Network.{Network}
 use Rattle.network.specs.declared.Network.the-variants.{Sound, Loop, Ends}
-use Rattle.network.specs.Order.{Order}
+use Rattle.network.specs.Wires.{Lent, InArrays}
+use Rattle.network.specs.Order.{Order, SameBeyond}
 use Rattle.network.specs.Judged.{Judged}
 use Rattle.network.proofs.Wires.{wired-joined}
-use Rattle.loading.proofs.Held.{gates-are, in-arrays}
+use Rattle.loading.proofs.Held.{gates-are, lent, in-arrays}
 use Rattle.loading.specs.Loads.{block-held, loaded-as, number-of, place-of, Loads}
 
 -- a file that was not read
@@ -45,16 +46,29 @@ order-for {E} {F} {k} {n} {order} e leads o =
     })
 
 module _ (file : List ℕ) (n m arrival deadline activity : ℕ) (G : GateArrays) (W : WireArrays) (e : block-passing file (Whole.Read n m arrival deadline activity) G W ≡ read-block file) where
-  abbrev pub the-block : Block
+  abbrev the-block : Block
   the-block = block-held n m arrival deadline activity G W
 
-  pub read-as : read-block file ≡ found the-block (length file)
+  read-as : read-block file ≡ found the-block (length file)
   read-as = sym e
 
-  pub loaded : (order : List ℕ) (net : Network) → Judged the-block order net → Loads file (loaded-as n m arrival deadline activity net) G W order
-  loaded order Sound j = (
-    record { end = length file; reads = sym e; network = j .0 },
-    order-for (gates-are file n m arrival deadline activity G W (length file) read-as) (wired-joined the-block n m (W .sources) (W .targets) (in-arrays file n m arrival deadline activity G W (length file) read-as)) (j .1),
+  arrays-hold : InArrays the-block n m (W .sources) (W .targets)
+  arrays-hold = in-arrays file n m arrival deadline activity G W (length file) read-as
+
+  pub lent-read : WireRoom W → Lent n m (W .sources) (W .targets)
+  lent-read = lent file n m arrival deadline activity G W (length file) read-as
+
+  as-judged : (before order : List ℕ) (net : Network) → SameBeyond n before order → Judged the-block order net → Loads file (loaded-as n m arrival deadline activity net) G W before order
+  as-judged before order Sound same j = (
+    record { end = length file; reads = read-as; network = j .0 },
+    order-for (gates-are file n m arrival deadline activity G W (length file) read-as) (wired-joined the-block n m (W .sources) (W .targets) arrays-hold) (j .1),
+    same,
   )
-  loaded order (Loop g) j = loop the-block (length file) (sym e) j refl
-  loaded order (Ends g) j = ends the-block (length file) (sym e) (j .0) (j .1) refl
+  as-judged before order (Loop g) same j = loop the-block (length file) read-as j refl
+  as-judged before order (Ends g) same j = ends the-block (length file) read-as (j .0) (j .1) refl
+
+  pub loaded : (before order : List ℕ) (net : Network)
+      → ((B : Block) → InArrays B n m (W .sources) (W .targets) → Judged B order net)
+      → SameBeyond n before order
+      → Loads file (loaded-as n m arrival deadline activity net) G W before order
+  loaded before order net j same = as-judged before order net same (j the-block arrays-hold)

@@ -11,7 +11,7 @@ use Rattle.blockfile.specs.Held.{GateArrays, WireArrays, gates-held, wires-held
 use Rattle.network.specs.declared.Network.{Network}
 use Rattle.network.specs.declared.Network.the-variants as Networks
 use Rattle.network.specs.Wires.{Wired}
-use Rattle.network.specs.Order.{Order}
+use Rattle.network.specs.Order.{Order, SameBeyond}
 use Rattle.loading.specs.declared.Loaded.{Loaded}
 use Rattle.loading.specs.declared.Loaded.the-variants.{Sound, Refused}
 
@@ -33,8 +33,9 @@ number-of r = refusal-answer r .number
 abbrev pub place-of : Refusal → ℕ
 place-of r = getD (refusal-answer r .values) 0 0
 
--- The file is well-formed and its block is in the arrays, with an order of its gates along the wires; or the refusal is the first of 1 to 9 that fits.
-abbrev pub Loads : List ℕ → Loaded → GateArrays → WireArrays → List ℕ → Type 0
-Loads file (Sound n m arrival deadline activity) G W order =
-    WellFormed file (block-held n m arrival deadline activity G W) × Order (Wired m (W .sources) (W .targets)) n order
-Loads file (Refused r) G W order = IllFormed file (number-of r) (place-of r)
+-- The file is well-formed and its block is in the arrays, with an order of its gates along the wires in the first n elements of `order`, whose others are as in `before`; or the refusal is the first of 1 to 9 that fits.
+-- Free is what the gate and wire arrays hold beyond the block's gates, steps and wires, and what every array holds after a refusal.
+abbrev pub Loads : List ℕ → Loaded → GateArrays → WireArrays → List ℕ → List ℕ → Type 0
+Loads file (Sound n m arrival deadline activity) G W before order =
+    WellFormed file (block-held n m arrival deadline activity G W) × Order (Wired m (W .sources) (W .targets)) n order × SameBeyond n before order
+Loads file (Refused r) G W before order = IllFormed file (number-of r) (place-of r)

@@ -50,7 +50,8 @@ fn judged(
     }
 }
 
-// Reads the file into the arrays and judges its network; `order` then holds an order of the gates along the wires. For the calls above.
+// Reads the file into the arrays and judges its network; the first n elements of `order` are then an order of the gates along the wires, its others as before.
+// What the other arrays hold beyond the block's gates, steps and wires is free, and after a refusal what any array holds. For the calls above.
 pub fn load(
     file: &[u8],
     delays: &mut [u32],
@@ -66,7 +67,7 @@ pub fn load(
     requires { ⌜ GateRoom (gate-arrays (now delays) (now activities) (now counts) (now «step_widths») (now drops)) ⌝ }
     requires { ⌜ WireRoom (wire-arrays (now sources) (now targets) (now «wire_delays»)) ⌝ }
     requires { ⌜ max-gates ≤ length (now order) ⌝ }
-    ensures { λ r. ⌜ Loads (now (file .entry)) r (gate-arrays (now (delays .exit)) (now (activities .exit)) (now (counts .exit)) (now («step_widths» .exit)) (now (drops .exit))) (wire-arrays (now (sources .exit)) (now (targets .exit)) (now («wire_delays» .exit))) (now (order .exit)) ⌝ }
+    ensures { λ r. ⌜ Loads (now (file .entry)) r (gate-arrays (now (delays .exit)) (now (activities .exit)) (now (counts .exit)) (now («step_widths» .exit)) (now (drops .exit))) (wire-arrays (now (sources .exit)) (now (targets .exit)) (now («wire_delays» .exit))) (now (order .entry)) (now (order .exit)) ⌝ }
 {
     let mut seen = [0u8; GATES_SQUARED];
     let read = read_block(
@@ -90,7 +91,7 @@ pub fn load(
             deadline,
             activity,
         } => {
-            let network = judge_network(gates, wires, sources, targets, 0, gates - 1, order);
+            let network = judge_network(gates, wires, sources, targets, order);
             judged(gates, wires, arrival, deadline, activity, network)
         }
     }

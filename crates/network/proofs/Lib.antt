@@ -5,6 +5,7 @@ pub mod Rounds
 pub mod Marks
 pub mod Square
 pub mod Wires
+pub mod Front
 pub mod Misplaced
 pub mod Answers
 pub mod Judgement

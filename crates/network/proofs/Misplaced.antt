@@ -1,19 +1,19 @@
 -- What the marks of wires in and out tell of a gate is what refusal 9 says of it.
 -- Assumes nothing.
-use mathlib.Core.Path.{_≡_, refl, sym, _∙_}
+use mathlib.Core.Path.{_≡_, refl, sym, _∙_, ap}
 use mathlib.Core.Logic.{_≢_, _⊎_, inl, inr, ⊎-elim}
 use mathlib.Core.Bool.{Bool, true, false, not}
 use mathlib.Core.List.{List}
-use Prim.Native.Nat.{ℕ, _≤_, _<_}
+use Prim.Native.Nat.{ℕ, _-_, _≤_, _<_}
 use native.Mathlib.Omega.{arith}
 use native.Mathlib.Decide.{ℕ-discrete}
 use lib.Dec.{eqb}
 use lib.ListN.{getD}
 use borrow.Author.Tests.{eqb-true, eqb-false, not-true, not-false}
 use Rattle.lists.specs.Search.{Says}
-use Rattle.model.specs.Block.{Block, Joined}
+use Rattle.model.specs.Block.{Block, last, Joined}
 use Rattle.model.specs.Refusal.{EndFault, into-first, none-in, out-of-last, none-out}
-use Rattle.network.specs.Wires.{Lent, InArrays, EndsAt}
+use Rattle.network.specs.Wires.{Lent, InArrays}
 use Rattle.network.specs.Marks.{Marks, Among, First}
 use Rattle.network.specs.Misplaced.{Misplaced, too-many, missing, Faulty}
 use Rattle.network.specs.declared.Faults.the-variants.{Nowhere, At}
@@ -99,37 +99,40 @@ module _ (B : Block) (n m : ℕ) (sources targets : List ℕ) (I : InArrays B n 
   fault-gate g (out-of-last b e j) = joined-gates g b j .0
   fault-gate g (none-out h d none) = let e = I .gates in omega arith
 
-  module _ (a b : ℕ) (E : EndsAt B a b) (ins outs : List ℕ) (In : Marks (Among targets m) n ins) (Out : Marks (Among sources m) n outs) where
-    in-fault : (g : ℕ) → g < n → ((g ≡ a) × Among targets m g) ⊎ ((g ≢ a) × (¬ (Among targets m g))) → EndFault B g
-    in-fault g h (inl w) = let j = has-in g (w .1) in into-first (j .0) (w .0 ∙ E .from) (j .1)
+  last-is : n - 1 ≡ last B
+  last-is = ap (λ (k : ℕ). k - 1) (sym (I .gates))
+
+  module _ (ins outs : List ℕ) (In : Marks (Among targets m) n ins) (Out : Marks (Among sources m) n outs) where
+    in-fault : (g : ℕ) → g < n → ((g ≡ 0) × Among targets m g) ⊎ ((g ≢ 0) × (¬ (Among targets m g))) → EndFault B g
+    in-fault g h (inl w) = let j = has-in g (w .1) in into-first (j .0) (w .0) (j .1)
     in-fault g h (inr w) =
         let c = I .gates in
-        none-in (omega arith) (λ e. w .0 (e ∙ sym (E .from))) (λ x j. w .1 (is-in g x j))
+        none-in (omega arith) (w .0) (λ x j. w .1 (is-in g x j))
 
-    out-fault : (g : ℕ) → g < n → ((g ≡ b) × Among sources m g) ⊎ ((g ≢ b) × (¬ (Among sources m g))) → EndFault B g
-    out-fault g h (inl w) = let j = has-out g (w .1) in out-of-last (j .0) (w .0 ∙ E .to) (j .1)
+    out-fault : (g : ℕ) → g < n → ((g ≡ n - 1) × Among sources m g) ⊎ ((g ≢ n - 1) × (¬ (Among sources m g))) → EndFault B g
+    out-fault g h (inl w) = let j = has-out g (w .1) in out-of-last (j .0) (w .0 ∙ last-is) (j .1)
     out-fault g h (inr w) =
         let c = I .gates in
-        none-out (omega arith) (λ e. w .0 (e ∙ sym (E .to))) (λ x j. w .1 (is-out g x j))
+        none-out (omega arith) (λ e. w .0 (e ∙ sym last-is)) (λ x j. w .1 (is-out g x j))
 
-    faulty-fault : (g : ℕ) → g < n → Faulty a b ins outs g → EndFault B g
-    faulty-fault g h (inl w) = in-fault g h (misplaced-says (Among targets m) n ins In g a h w)
-    faulty-fault g h (inr w) = out-fault g h (misplaced-says (Among sources m) n outs Out g b h w)
+    faulty-fault : (g : ℕ) → g < n → Faulty n ins outs g → EndFault B g
+    faulty-fault g h (inl w) = in-fault g h (misplaced-says (Among targets m) n ins In g 0 h w)
+    faulty-fault g h (inr w) = out-fault g h (misplaced-says (Among sources m) n outs Out g (n - 1) h w)
 
-    fault-faulty : (g : ℕ) → g < n → EndFault B g → Faulty a b ins outs g
-    fault-faulty g h (into-first x e j) = inl (says-too-many (Among targets m) n ins In g a h (e ∙ sym (E .from)) (is-in g x j))
+    fault-faulty : (g : ℕ) → g < n → EndFault B g → Faulty n ins outs g
+    fault-faulty g h (into-first x e j) = inl (says-too-many (Among targets m) n ins In g 0 h e (is-in g x j))
     fault-faulty g h (none-in l d none) =
-        inl (says-missing (Among targets m) n ins In g a h (λ e. d (e ∙ E .from)) (λ w. let j = has-in g w in none (j .0) (j .1)))
-    fault-faulty g h (out-of-last x e j) = inr (says-too-many (Among sources m) n outs Out g b h (e ∙ sym (E .to)) (is-out g x j))
+        inl (says-missing (Among targets m) n ins In g 0 h d (λ w. let j = has-in g w in none (j .0) (j .1)))
+    fault-faulty g h (out-of-last x e j) = inr (says-too-many (Among sources m) n outs Out g (n - 1) h (e ∙ sym last-is) (is-out g x j))
     fault-faulty g h (none-out l d none) =
-        inr (says-missing (Among sources m) n outs Out g b h (λ e. d (e ∙ E .to)) (λ w. let j = has-out g w in none (j .0) (j .1)))
+        inr (says-missing (Among sources m) n outs Out g (n - 1) h (λ e. d (e ∙ last-is)) (λ w. let j = has-out g w in none (j .0) (j .1)))
 
-    first-fault : (r : ℕ) → First (Faulty a b ins outs) n r → First (EndFault B) n r
-    first-fault = first-same (Faulty a b ins outs) (EndFault B) n faulty-fault fault-faulty
+    first-fault : (r : ℕ) → First (Faulty n ins outs) n r → First (EndFault B) n r
+    first-fault = first-same (Faulty n ins outs) (EndFault B) n faulty-fault fault-faulty
 
     -- the search's number as the answer
-    pub fault-found : (r : ℕ) → First (Faulty a b ins outs) n r → r < n → FaultFound B (At r)
+    pub fault-found : (r : ℕ) → First (Faulty n ins outs) n r → r < n → FaultFound B (At r)
     fault-found r F h = let G = first-fault r F in record { holds = G .found h; none-below = G .none-below }
 
-    pub no-fault : (r : ℕ) → First (Faulty a b ins outs) n r → n ≤ r → FaultFound B Nowhere
+    pub no-fault : (r : ℕ) → First (Faulty n ins outs) n r → n ≤ r → FaultFound B Nowhere
     no-fault r F h = λ g x. let l = fault-gate g x in first-fault r F .none-below g (omega arith) x

@@ -5,7 +5,7 @@ use mathlib.Core.List.{List}
 use Prim.Native.Nat.{ℕ, _≤_, _<_}
 use lib.ListN.{length, getD}
 use Rattle.model.specs.Limits.{max-gates, max-wires}
-use Rattle.model.specs.Block.{Block, gate-count, first, last}
+use Rattle.model.specs.Block.{Block, gate-count}
 use Rattle.model.specs.Arrays.{wires-in}
 
 -- What is asked of the arrays: they are long enough, and each wire joins gates below n.
@@ -29,8 +29,3 @@ pub record InArrays (B : Block) (n m : ℕ) (sources targets : List ℕ) : Type 
   pub delays : List ℕ
   pub gates : gate-count B ≡ n
   pub wires : B .wires ≡ wires-in m sources targets delays
-
--- The first gate of the block B is a, and its last is b.
-pub record EndsAt (B : Block) (a b : ℕ) : Type 0 where
-  pub from : a ≡ first B
-  pub to : b ≡ last B

@@ -6,7 +6,7 @@ ghost use Prim.Native.Nat.{_≤_, _<_};
 ghost use lib.ListN.{length};
 ghost use Rattle.lists.specs.Search.{Says};
 ghost use Rattle.model.specs.Block.{Block};
-ghost use Rattle.network.specs.Wires.{Lent, InArrays, EndsAt};
+ghost use Rattle.network.specs.Wires.{Lent, InArrays};
 ghost use Rattle.network.specs.Marks.{First};
 ghost use Rattle.network.specs.Misplaced.{Misplaced, Faulty};
 ghost use Rattle.network.specs.Judged.{FaultFound};
@@ -18,25 +18,25 @@ fn misplaced(g: usize, end: usize, mark: u8) -> bool
     if g == end { mark != 0 } else { mark == 0 }
 }
 
-// Whether gate g is at fault with its wires in or with its wires out, as the marks tell.
-fn faulty(g: usize, first: usize, last: usize, ins: &[u8], outs: &[u8]) -> bool
-    requires { ⌜ (g < length (now ins)) × (g < length (now outs)) ⌝ }
-    ensures { λ r. ⌜ Says (Faulty first last (now (ins .entry)) (now (outs .entry)) g) r ⌝ }
+// Whether gate g of the n gates is at fault with its wires in or with its wires out, as the marks tell.
+fn faulty(n: usize, g: usize, ins: &[u8], outs: &[u8]) -> bool
+    requires { ⌜ (g < n) × (n ≤ length (now ins)) × (n ≤ length (now outs)) ⌝ }
+    ensures { λ r. ⌜ Says (Faulty n (now (ins .entry)) (now (outs .entry)) g) r ⌝ }
 {
-    if misplaced(g, first, ins[g]) {
+    if misplaced(g, 0, ins[g]) {
         return true;
     }
-    misplaced(g, last, outs[g])
+    misplaced(g, n - 1, outs[g])
 }
 
 // The lowest gate at fault as the marks tell, or n where there is none.
-fn first_faulty(n: usize, first: usize, last: usize, ins: &[u8], outs: &[u8]) -> usize
+fn first_faulty(n: usize, ins: &[u8], outs: &[u8]) -> usize
     requires { ⌜ (n ≤ length (now ins)) × (n ≤ length (now outs)) ⌝ }
-    ensures { λ r. ⌜ First (Faulty first last (now (ins .entry)) (now (outs .entry))) n r ⌝ }
+    ensures { λ r. ⌜ First (Faulty n (now (ins .entry)) (now (outs .entry))) n r ⌝ }
 {
     let mut g = 0;
     while g < n {
-        if faulty(g, first, last, ins, outs) {
+        if faulty(n, g, ins, outs) {
             return g;
         }
         g += 1;
@@ -44,23 +44,16 @@ fn first_faulty(n: usize, first: usize, last: usize, ins: &[u8], outs: &[u8]) ->
     g
 }
 
-// The lowest gate at fault with its wires, where `first` must have no wire in and `last` none out.
-pub fn lowest_at_fault(
-    n: usize,
-    m: usize,
-    sources: &[u32],
-    targets: &[u32],
-    first: usize,
-    last: usize,
-) -> Faults
+// The lowest gate at fault with its wires: gate 0 must have no wire in, gate n - 1 none out, every other gate both.
+pub fn lowest_at_fault(n: usize, m: usize, sources: &[u32], targets: &[u32]) -> Faults
     requires { ⌜ Lent n m (now sources) (now targets) ⌝ }
-    ensures { λ r. ⌜ ((B : Block) → InArrays B n m (now (sources .entry)) (now (targets .entry)) → EndsAt B first last → FaultFound B r) ⌝ }
+    ensures { λ r. ⌜ ((B : Block) → InArrays B n m (now (sources .entry)) (now (targets .entry)) → FaultFound B r) ⌝ }
 {
     let mut ins = [0u8; MAX_GATES];
     let mut outs = [0u8; MAX_GATES];
     mark_keys(m, targets, &mut ins);
     mark_keys(m, sources, &mut outs);
-    let gate = first_faulty(n, first, last, &ins, &outs);
+    let gate = first_faulty(n, &ins, &outs);
     if gate < n {
         return Faults::At { gate: gate };
     }

@@ -1,19 +1,19 @@
 // The network of a block: refusal 8 (a gate reaches itself), refusal 9 (a gate is at fault with its wires), and an order of the gates along the wires.
 // Every function here is public only for the crates above. `sources` and `targets` hold the gates that each of the `m` wires joins; wire delays play no part.
-pub mod ends;
-pub mod loops;
+mod ends;
+mod loops;
 pub mod marking;
-pub mod ordering;
+mod ordering;
 
 ghost use Prim.Native.Nat.{_≤_};
 ghost use lib.ListN.{length};
 ghost use Rattle.model.specs.Block.{Block};
-ghost use Rattle.network.specs.Wires.{Lent, InArrays, EndsAt};
+ghost use Rattle.network.specs.Wires.{Lent, InArrays};
 ghost use Rattle.network.specs.Order.{SameBeyond};
 ghost use Rattle.network.specs.Judged.{Judged};
 
 // Refusal 9 alone.
-pub enum Faults {
+pub(crate) enum Faults {
     // No gate is at fault with its wires.
     Nowhere,
     // The lowest gate at fault.
@@ -36,13 +36,11 @@ pub fn judge_network(
     m: usize,
     sources: &[u32],
     targets: &[u32],
-    first: usize,
-    last: usize,
     order: &mut [u32],
 ) -> Network
     requires { ⌜ Lent n m (now sources) (now targets) ⌝ }
     requires { ⌜ n ≤ length (now order) ⌝ }
-    ensures { λ r. ⌜ ((B : Block) → InArrays B n m (now (sources .entry)) (now (targets .entry)) → EndsAt B first last → Judged B (now (order .exit)) r) ⌝ }
+    ensures { λ r. ⌜ ((B : Block) → InArrays B n m (now (sources .entry)) (now (targets .entry)) → Judged B (now (order .exit)) r) ⌝ }
     ensures { λ r. ⌜ SameBeyond n (now (order .entry)) (now (order .exit)) ⌝ }
 {
     let ordered = ordering::order_gates(n, m, sources, targets, order);
@@ -50,7 +48,7 @@ pub fn judge_network(
         let gate = loops::lowest_on_loop(n, m, sources, targets);
         return Network::Loop { gate: gate };
     }
-    let faults = ends::lowest_at_fault(n, m, sources, targets, first, last);
+    let faults = ends::lowest_at_fault(n, m, sources, targets);
     match faults {
         Faults::Nowhere => Network::Sound,
         Faults::At { gate } => Network::Ends { gate: gate },

@@ -13,7 +13,7 @@ pub fn at(numbers: &[u32], i: usize) -> usize
 }
 
 // Marks the gates among the first m elements of `keys`; for the first n gates whose marks were 0, the marks then tell which of them these are.
-pub fn mark_keys(m: usize, keys: &[u32], marks: &mut [u8])
+pub(crate) fn mark_keys(m: usize, keys: &[u32], marks: &mut [u8])
     requires { ⌜ m ≤ length (now keys) ⌝ }
     requires { ⌜ ((i : ℕ) → i < m → getD (now keys) i 0 < length (now marks)) ⌝ }
     ensures { λ r. ⌜ ((n : ℕ) → ((g : ℕ) → g < n → getD (now (marks .entry)) g 0 ≡ 0) → Marks (Among (now (keys .entry)) m) n (now (marks .exit))) ⌝ }

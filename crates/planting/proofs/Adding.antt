@@ -5,14 +5,14 @@ use mathlib.Core.Logic.{_⊎_, inl, inr}
 use Prim.Native.Nat.{ℕ, _+_, _-_, _≤_, _<_}
 use native.Mathlib.Nat.{le-max-left, le-max-right}
 use native.Mathlib.Omega.{arith}
-use lib.ListN.{set, length-set}
+use lib.ListN.{length, set, length-set}
 use lib.Seq.{getD-set-same, getD-set-other}
 use Rattle.lists.proofs.Compare.{le-or-lt, compared}
 use Rattle.parts.specs.Nodes.{leaf, chain, beside, Nodes, node-tree, tree-of, Tree as NodeTree}
 use Rattle.parts.proofs.Nodes.{tree-at, tree-wire, SameNode, grown}
 use Rattle.optimum.specs.Tree.{Tree, count, Once, size, zeros, longest}
 use Rattle.optimum.proofs.Count.{is-self}
-use Rattle.planting.specs.Copy.{Plot, nodes-of, with-leaf, with-parent, copied, Room, AsLong}
+use Rattle.planting.specs.Copy.{Plot, nodes-of, with-leaf, with-parent, copied, Room}
 use Rattle.planting.specs.Planted.{as-tree, part, kind, left, gate, right, parent, Inside}
 
 -- The children of node k are nodes from c on, before k, and k is their parent.
@@ -333,6 +333,14 @@ module _
           inside = λ k h n. inside-all k h (place k n);
           own-gate = λ once j k a b d e. own-all once j k a d (place j b) (place k e);
         }
+
+-- the arrays of B are as long as those of A
+pub record AsLong (A B : Plot) : Type 0 where
+  pub kinds-kept : length (B .nodes .kinds) ≡ length (A .nodes .kinds)
+  pub lefts-kept : length (B .nodes .lefts) ≡ length (A .nodes .lefts)
+  pub gates-kept : length (B .nodes .gates) ≡ length (A .nodes .gates)
+  pub rights-kept : length (B .nodes .rights) ≡ length (A .nodes .rights)
+  pub parents-kept : length (B .parents) ≡ length (A .parents)
 
 leaf-as-long : (d c : ℕ) (A : Plot) → AsLong A (with-leaf c d A)
 leaf-as-long d c A =

@@ -1,4 +1,4 @@
--- A tree copied to the first nodes, its top's parent written, is planted (`planted`); so are the tree of a whole block and a gate alone, written piece by piece. The arrays keep their lengths.
+-- A tree copied to the first nodes, its top's parent written, is planted (`planted`); so are the tree of a whole block and a gate alone, written piece by piece. The arrays are those of `planted-in` and keep their lengths.
 -- Assumes nothing.
 use mathlib.Core.Path.{_≡_, refl, _∙_, ap₂}
 use mathlib.Core.Logic.{_⊎_, inl, inr}
@@ -9,9 +9,9 @@ use lib.ListN.{length, set, length-set}
 use lib.Seq.{getD-set-same, getD-set-other}
 use Rattle.lists.proofs.Compare.{compared}
 use Rattle.parts.specs.Nodes.{Tree, leaf, chain}
-use Rattle.planting.specs.Copy.{Plot, nodes-of, with-leaf, with-parent, copied, rooted, Room, AsLong}
+use Rattle.planting.specs.Copy.{Plot, nodes-of, with-leaf, with-parent, copied, rooted, planted-in, Room}
 use Rattle.planting.specs.Planted.{left, right, parent, Planted, whole, lone}
-use Rattle.planting.proofs.Adding.{Added, nodes-some, as-long-then, copied-as-long, less-room, leaf-room, parent-room, copied-room, copied-added}
+use Rattle.planting.proofs.Adding.{Added, nodes-some, AsLong, as-long-then, copied-as-long, less-room, leaf-room, parent-room, copied-room, copied-added}
 
 pub planted : (t : Tree) (A : Plot) → Room A (nodes-of t) → Planted t (nodes-of t) (rooted (nodes-of t) (copied t 0 A))
 planted t A room = go (copied t 0 A) (copied-room t 0 _ A room) (copied-added t 0 A (less-room (omega arith) room))
@@ -47,11 +47,14 @@ rooted-as-long : (c : ℕ) (A : Plot) → AsLong A (rooted c A)
 rooted-as-long c A =
     record { kinds-kept = refl; lefts-kept = refl; gates-kept = refl; rights-kept = refl; parents-kept = length-set (A .parents) (c - 1) c }
 
+pub planted-as-long : (t : Tree) {A B : Plot} → B ≡ planted-in t A → AsLong A B
+planted-as-long t {A} e = rw e (as-long-then (copied-as-long t 0 A) (rooted-as-long (nodes-of t) (copied t 0 A)))
+
 -- a tree copied, with its top's parent written
 planted-is : (t : Tree) {r : ℕ} {A B : Plot} {ps : List ℕ} → Room A (nodes-of t) → r ≡ nodes-of t → B ≡ copied t 0 A → ps ≡ set (B .parents) (r - 1) r
-    → Planted t r (record { nodes = B .nodes; parents = ps }) × AsLong A (record { nodes = B .nodes; parents = ps })
+    → Planted t r (record { nodes = B .nodes; parents = ps }) × (record { nodes = B .nodes; parents = ps } ≡ planted-in t A)
 planted-is t {A = A} room n e p =
-    rw (p, e, n) (planted t A room, as-long-then (copied-as-long t 0 A) (rooted-as-long (nodes-of t) (copied t 0 A)))
+    rw (p, e, n) (planted t A room, refl)
 
 module _ (t : Tree) (a b : ℕ) {A : Plot} (room : Room A (nodes-of (whole a t b))) where
   pub first-asked : Room A 1
@@ -105,13 +108,13 @@ module _ (t : Tree) (a b : ℕ) {A : Plot} (room : Room A (nodes-of (whole a t b
                 outer ∙ ap₂ (λ r X. with-parent 1 1 a r X) e inner-is
 
             pub whole-done : {ps : List ℕ} → ps ≡ set (F .parents) (l + 3 - 1) (l + 3)
-                → (l + 3 ≡ nodes-of (whole a t b)) × (Planted (whole a t b) (l + 3) (record { nodes = F .nodes; parents = ps }) × AsLong A (record { nodes = F .nodes; parents = ps }))
+                → (l + 3 ≡ nodes-of (whole a t b)) × (Planted (whole a t b) (l + 3) (record { nodes = F .nodes; parents = ps }) × (record { nodes = F .nodes; parents = ps } ≡ planted-in (whole a t b) A))
             whole-done p =
                 let n : l + 3 ≡ nodes-of (whole a t b) = omega (arith, count) in
                 (n, planted-is (whole a t b) room n outer-is p)
 
 pub lone-done : (g : ℕ) {A B C D : Plot} {ps : List ℕ} → Room A 3 → B ≡ with-leaf 0 0 A → C ≡ with-leaf 1 0 B → D ≡ with-parent 1 1 g 2 C
-    → ps ≡ set (D .parents) 2 3 → Planted (lone g) 3 (record { nodes = D .nodes; parents = ps }) × AsLong A (record { nodes = D .nodes; parents = ps })
+    → ps ≡ set (D .parents) 2 3 → Planted (lone g) 3 (record { nodes = D .nodes; parents = ps }) × (record { nodes = D .nodes; parents = ps } ≡ planted-in (lone g) A)
 unfolding copied
 lone-done g room b c d p = planted-is (lone g) room refl (d ∙ rw (c, b) refl) p
 

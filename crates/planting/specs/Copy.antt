@@ -66,14 +66,10 @@ pub record Room (A : Plot) (c : ℕ) : Type 0 where
   pub parent-room : c ≤ length (A .parents)
   pub few : c < 2 ^ 32
 
--- the arrays of B are as long as those of A
-pub record AsLong (A B : Plot) : Type 0 where
-  pub kinds-kept : length (B .nodes .kinds) ≡ length (A .nodes .kinds)
-  pub lefts-kept : length (B .nodes .lefts) ≡ length (A .nodes .lefts)
-  pub gates-kept : length (B .nodes .gates) ≡ length (A .nodes .gates)
-  pub rights-kept : length (B .nodes .rights) ≡ length (A .nodes .rights)
-  pub parents-kept : length (B .parents) ≡ length (A .parents)
-
 -- the last of c nodes gets a parent's number that no node has
 abbrev pub rooted : ℕ → Plot → Plot
 rooted c A = record { nodes = A .nodes; parents = set (A .parents) (c - 1) c }
+
+-- the tree in the first nodes, with its top's parent; every node beyond is as in A
+abbrev pub planted-in : Tree → Plot → Plot
+planted-in t A = rooted (nodes-of t) (copied t 0 A)

@@ -10,7 +10,7 @@ use node::write_root;
 ghost use mathlib.Core.Path.{_≡_};
 ghost use Prim.Native.Nat.{_+_};
 ghost use Rattle.parts.specs.Nodes.{tree-of};
-ghost use Rattle.planting.specs.Copy.{nodes-in, nodes-of, plot, Readable, Room, AsLong};
+ghost use Rattle.planting.specs.Copy.{nodes-in, nodes-of, plot, planted-in, Readable, Room};
 ghost use Rattle.planting.specs.Planted.{Planted, whole, lone};
 
 // Nodes of the tree that a reduction leaves, at most: two for each wire.
@@ -25,7 +25,7 @@ pub type ReducedNumbers = [u32; MAX_REDUCED];
 // A number for each node of a planted tree.
 pub type NodeNumbers = [u32; MAX_NODES];
 
-// Plants the tree of node i of the arrays kind, left, gate, right, between gates a and b. Answers the number of nodes; the top is the last.
+// Plants the tree of node i of the arrays kind, left, gate, right, between gates a and b. Answers the number of nodes; the top is the last. Nodes beyond are as before.
 // Public for the crates above only: they have shown that node i is the root of a tree.
 pub fn plant(
     i: usize,
@@ -45,7 +45,7 @@ pub fn plant(
     requires { ⌜ Room (plot (now kinds) (now lefts) (now gates) (now rights) (now parents)) (nodes-of (whole a (tree-of (nodes-in (now kind) (now left) (now gate) (now right)) i) b)) ⌝ }
     ensures count { λ r. ⌜ r ≡ nodes-of (whole a (tree-of (nodes-in (now (kind .entry)) (now (left .entry)) (now (gate .entry)) (now (right .entry))) i) b) ⌝ }
     ensures planted { λ r. ⌜ Planted (whole a (tree-of (nodes-in (now (kind .entry)) (now (left .entry)) (now (gate .entry)) (now (right .entry))) i) b) r (plot (now (kinds .exit)) (now (lefts .exit)) (now (gates .exit)) (now (rights .exit)) (now (parents .exit))) ⌝ }
-    ensures long { λ r. ⌜ AsLong (plot (now (kinds .entry)) (now (lefts .entry)) (now (gates .entry)) (now (rights .entry)) (now (parents .entry))) (plot (now (kinds .exit)) (now (lefts .exit)) (now (gates .exit)) (now (rights .exit)) (now (parents .exit))) ⌝ }
+    ensures written { λ r. ⌜ plot (now (kinds .exit)) (now (lefts .exit)) (now (gates .exit)) (now (rights .exit)) (now (parents .exit)) ≡ planted-in (whole a (tree-of (nodes-in (now (kind .entry)) (now (left .entry)) (now (gate .entry)) (now (right .entry))) i) b) (plot (now (kinds .entry)) (now (lefts .entry)) (now (gates .entry)) (now (rights .entry)) (now (parents .entry))) ⌝ }
 {
     write_leaf(kinds, lefts, gates, rights, parents, 0, 0);
     let l = copy(
@@ -68,7 +68,7 @@ pub fn plant(
     l + 3
 }
 
-// Plants gate g alone. Answers the number of nodes; the top is the last.
+// Plants gate g alone. Answers the number of nodes; the top is the last. Nodes beyond are as before.
 pub fn plant_lone(
     g: u32,
     kinds: &mut NodeNumbers,
@@ -80,7 +80,7 @@ pub fn plant_lone(
     requires { ⌜ Room (plot (now kinds) (now lefts) (now gates) (now rights) (now parents)) 3 ⌝ }
     ensures count { λ r. ⌜ r ≡ 3 ⌝ }
     ensures planted { λ r. ⌜ Planted (lone g) r (plot (now (kinds .exit)) (now (lefts .exit)) (now (gates .exit)) (now (rights .exit)) (now (parents .exit))) ⌝ }
-    ensures long { λ r. ⌜ AsLong (plot (now (kinds .entry)) (now (lefts .entry)) (now (gates .entry)) (now (rights .entry)) (now (parents .entry))) (plot (now (kinds .exit)) (now (lefts .exit)) (now (gates .exit)) (now (rights .exit)) (now (parents .exit))) ⌝ }
+    ensures written { λ r. ⌜ plot (now (kinds .exit)) (now (lefts .exit)) (now (gates .exit)) (now (rights .exit)) (now (parents .exit)) ≡ planted-in (lone g) (plot (now (kinds .entry)) (now (lefts .entry)) (now (gates .entry)) (now (rights .entry)) (now (parents .entry))) ⌝ }
 {
     write_leaf(kinds, lefts, gates, rights, parents, 0, 0);
     write_leaf(kinds, lefts, gates, rights, parents, 1, 0);

@@ -15,7 +15,7 @@ use Rattle.model.specs.Limits.{max-gates, max-width, max-time}
 use Rattle.model.specs.Block.{Step, Block, gate, gate-count, first, last, widths}
 use Rattle.model.specs.Path.{Path, Longest}
 use Rattle.model.specs.Gain.{saving}
-use Rattle.model.specs.InTime.{slowed}
+use Rattle.model.specs.InTime.{no-increase, slowed}
 use Rattle.model.specs.Slack.{source-by}
 use Rattle.model.specs.Answer.{refusal, accepted, Exceeds, PathNotInTime, AnswersJudge, well-formed, fits, passes}
 use Rattle.model.proofs.Limited.{StepLimits}
@@ -163,7 +163,7 @@ module _ (file : List ℕ) (n m arrival deadline activity : ℕ) (G : GateArrays
       omega (arith, longest-is t lasts .greatest (path .0) (path .1)))
       (rw (s ∙ ap (saving B) judged-is) refl))))
 
-  module _ (inputs : List ℕ) (inputs-long : length inputs ≡ max-gates) (right : InputActivities n m (W .sources) (W .targets) (G .activities) 0 activity inputs) where
+  module _ (inputs : List ℕ) (inputs-long : length inputs ≡ max-gates) (right : InputActivities n m (W .sources) (W .targets) (G .activities) 0 activity (no-increase max-gates) inputs) where
     pub earnable : Earnable n (G .counts) (G .step-widths) (G .drops) inputs x
     earnable =
         block-earnable n (G .counts) (G .step-widths) (G .drops) inputs x B (the-limits h) held (inputs-are h inputs right)

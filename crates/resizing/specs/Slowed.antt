@@ -3,6 +3,7 @@ use mathlib.Core.Path.{_≡_}
 use mathlib.Core.List.{List}
 use Prim.Native.Nat.{ℕ, _+_, _-_, _≤_, _<_}
 use lib.ListN.{length, getD}
+use Rattle.lists.specs.Over.{build, over}
 use Rattle.model.specs.Limits.{max-gates, max-time}
 use Rattle.model.specs.Slack.{source-by}
 use Rattle.model.specs.Arrays.{wires-in}
@@ -18,9 +19,13 @@ pub record Addable (n : ℕ) (delays increases slowed : List ℕ) : Type 0 where
   pub slowed-long : n ≤ length slowed
   pub sum-small : (g : ℕ) → g < n → getD delays g 0 + getD increases g 0 ≤ most-delay
 
--- The first n elements of `slowed` are the delays with the increases added.
-pub record Added (n : ℕ) (delays increases slowed : List ℕ) : Type 0 where
-  pub sum : (g : ℕ) → g < n → getD slowed g 0 ≡ getD delays g 0 + getD increases g 0
+-- a gate's delay with its increase added
+abbrev pub slowed-delay : List ℕ → List ℕ → ℕ → ℕ
+slowed-delay delays increases g = getD delays g 0 + getD increases g 0
+
+-- The first n elements of `slowed` are the delays with the increases added, all others are as in `before`.
+abbrev pub Added : ℕ → List ℕ → List ℕ → List ℕ → List ℕ → Type 0
+Added n delays increases before slowed = slowed ≡ over (build n (slowed-delay delays increases)) before
 
 -- The network is at hand with an order of its gates along the wires, and increases for them.
 pub record Lasting (n m : ℕ) (order sources targets wire-delays delays increases : List ℕ) : Type 0 where

@@ -3,10 +3,10 @@ use model::limits::MAX_GATES;
 use timing::times::times_from;
 ghost use Rattle.resizing.specs.Slowed.{Addable, Added, Lasting, Lasts};
 
-// The delays of n gates with their increases added.
+// The delays of n gates with their increases added, to the front of `slowed`.
 fn slow_gates(n: usize, delays: &[u32], increases: &[u32], slowed: &mut [u32])
     requires { ⌜ Addable n (now delays) (now increases) (now slowed) ⌝ }
-    ensures { λ r. ⌜ Added n (now (delays .entry)) (now (increases .entry)) (now (slowed .exit)) ⌝ }
+    ensures { λ r. ⌜ Added n (now (delays .entry)) (now (increases .entry)) (now (slowed .entry)) (now (slowed .exit)) ⌝ }
 {
     let mut g: usize = 0;
     while g < n {

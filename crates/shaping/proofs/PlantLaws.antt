@@ -15,8 +15,9 @@ use Rattle.parts.specs.Wired.{Given as Reducible}
 use Rattle.parts.specs.Answered.{Rooted}
 use Rattle.parts.proofs.Gates.{part-ends}
 use Rattle.optimum.specs.BlockTree.{block-tree, lone-tree}
-use Rattle.planting.specs.Copy.{Plot, nodes-of, max-reduced, max-nodes, Readable, Room, AsLong}
+use Rattle.planting.specs.Copy.{Plot, nodes-of, max-reduced, planted-in, max-nodes, Readable, Room}
 use Rattle.planting.specs.Planted.{as-tree, whole, lone, Planted}
+use Rattle.planting.proofs.Adding.{AsLong}
 use Rattle.planting.proofs.Cutting.{rooted-readable}
 use Rattle.planting.proofs.Wires.{few-nodes}
 use Rattle.planting.proofs.Trees.{whole-converted}
@@ -76,15 +77,16 @@ module _ {B : Block} {n m : ℕ} {sources targets wire-delays : List ℕ} (given
       (rooted-readable r full, few-room long (nodes-of (whole a (tree-of T t) b)) (root-few r a b))
 
   -- What is planted is the block's tree, or there is none.
-  pub unfit-planted : {A : Plot} → ¬ (SeriesParallel B) → PlantedOrNot B 0 A
-  unfit-planted unfit = record { none = λ e. unfit; tree = λ some. absurd (omega arith) }
+  pub unfit-planted : {A : Plot} → ¬ (SeriesParallel B) → PlantedOrNot B 0 A A
+  unfit-planted unfit = record { none = λ e. unfit; kept = λ e. refl; tree = λ some. absurd (omega arith) }
 
-  pub lone-planted : {A : Plot} {c : ℕ} → (gate-count B ≡ 1) × SeriesParallel B → c ≡ 3 → Planted (lone 0) c A → PlantedOrNot B c A
-  lone-planted (single, fits) count planted =
+  pub lone-planted : {before A : Plot} {c : ℕ} → (gate-count B ≡ 1) × SeriesParallel B → c ≡ 3 → Planted (lone 0) c A → A ≡ planted-in (lone 0) before → PlantedOrNot B c before A
+  lone-planted (single, fits) count planted written =
       record {
         none = λ e. absurd (omega arith);
+        kept = λ e. absurd (omega arith);
         tree = λ some.
-            record { fits = fits; tree = lone 0; is-tree = sym (lone-case single fits); planted = planted; some = some; few = omega arith };
+            record { fits = fits; tree = lone 0; is-tree = sym (lone-case single fits); planted = planted; written = written; some = some; few = omega arith };
       }
 
   root-is-tree : {T : Nodes} {t k : ℕ} (r : Rooted B T t k) → as-tree (whole 0 (tree-of T t) (n - 1)) ≡ block-tree B (built _ (r .whole))
@@ -92,16 +94,18 @@ module _ {B : Block} {n m : ℕ} {sources targets wire-delays : List ℕ} (given
       ap (λ b. as-tree (whole 0 (tree-of T t) (b - 1))) (sym (given .wired .gates))
       ∙ whole-converted B (no-wire-twice B (given .limits) (given .sound)) (tree-of T t) (r .weighed)
 
-  pub root-planted : {T : Nodes} {t k : ℕ} {A : Plot} {c : ℕ} → Rooted B T t k → c ≡ nodes-of (whole 0 (tree-of T t) (n - 1)) → Planted (whole 0 (tree-of T t) (n - 1)) c A → PlantedOrNot B c A
-  root-planted {T} {t} r count planted =
+  pub root-planted : {T : Nodes} {t k : ℕ} {before A : Plot} {c : ℕ} → Rooted B T t k → c ≡ nodes-of (whole 0 (tree-of T t) (n - 1)) → Planted (whole 0 (tree-of T t) (n - 1)) c A → A ≡ planted-in (whole 0 (tree-of T t) (n - 1)) before → PlantedOrNot B c before A
+  root-planted {T} {t} r count planted written =
       record {
         none = λ e. absurd (omega arith);
+        kept = λ e. absurd (omega arith);
         tree = λ some.
             record {
               fits = built _ (r .whole);
               tree = whole 0 (tree-of T t) (n - 1);
               is-tree = root-is-tree r;
               planted = planted;
+              written = written;
               some = some;
               few = omega (arith, root-few r 0 (n - 1));
             };

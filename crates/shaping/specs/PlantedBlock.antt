@@ -10,7 +10,7 @@ use Rattle.model.proofs.Limited.{BlockLimits}
 use Rattle.parts.specs.Nodes.{Tree}
 use Rattle.parts.specs.Wired.{Wired}
 use Rattle.optimum.specs.BlockTree.{block-tree}
-use Rattle.planting.specs.Copy.{Plot, max-nodes}
+use Rattle.planting.specs.Copy.{Plot, planted-in, max-nodes}
 use Rattle.planting.specs.Planted.{as-tree, Planted}
 
 -- B is within the limits of a file, its network is sound, and its m wires stand in the arrays.
@@ -33,16 +33,18 @@ pub record NodesLong (A : Plot) : Type 0 where
   pub rights-long : max-nodes ≤ length (A .nodes .rights)
   pub parents-long : max-nodes ≤ length (A .parents)
 
--- The block is series-parallel, and its tree stands in the first c nodes of the arrays.
-pub record PlantedBlock (B : Block) (c : ℕ) (A : Plot) : Type 0 where
+-- The block is series-parallel, and its tree stands in the first c nodes of the arrays A, whose other nodes are as in `before`.
+pub record PlantedBlock (B : Block) (c : ℕ) (before A : Plot) : Type 0 where
   pub fits : SeriesParallel B
   pub tree : Tree
   pub is-tree : as-tree tree ≡ block-tree B fits
   pub planted : Planted tree c A
+  pub written : A ≡ planted-in tree before
   pub some : 0 < c
   pub few : c ≤ max-nodes
 
--- No node exactly where the block is not series-parallel; else its tree.
-pub record PlantedOrNot (B : Block) (c : ℕ) (A : Plot) : Type 0 where
+-- No node exactly where the block is not series-parallel, and then the arrays are as before; else its tree.
+pub record PlantedOrNot (B : Block) (c : ℕ) (before A : Plot) : Type 0 where
   pub none : c ≡ 0 → ¬ (SeriesParallel B)
-  pub tree : 0 < c → PlantedBlock B c A
+  pub kept : c ≡ 0 → A ≡ before
+  pub tree : 0 < c → PlantedBlock B c before A

@@ -11,7 +11,7 @@ ghost use Rattle.model.specs.Block.{Block};
 ghost use Rattle.planting.specs.Copy.{plot};
 ghost use Rattle.shaping.specs.PlantedBlock.{Given, WiresLong, NodesLong, PlantedOrNot};
 
-// The tree of a block of n gates and m wires, which stand in the arrays, planted in the node arrays. Answers the number of nodes, whose last is the top; 0 where the block is not series-parallel.
+// The tree of a block of n gates and m wires, which stand in the arrays, planted in the node arrays. Answers the number of nodes, whose last is the top; 0 where the block is not series-parallel. Nodes beyond are as before.
 // Public for the crates above only: they have shown that the wires are those of a sound network.
 pub fn plant_block(
     n: usize,
@@ -28,7 +28,7 @@ pub fn plant_block(
     requires { ⌜ ((B : Block) × Given B n m (now sources) (now targets) (now «wire_delays»)) ⌝ }
     requires { ⌜ WiresLong m (now sources) (now targets) (now «wire_delays») ⌝ }
     requires { ⌜ NodesLong (plot (now kinds) (now lefts) (now gates) (now rights) (now parents)) ⌝ }
-    ensures planted { λ r. ⌜ ((B : Block) → Given B n m (now (sources .entry)) (now (targets .entry)) (now («wire_delays» .entry)) → PlantedOrNot B r (plot (now (kinds .exit)) (now (lefts .exit)) (now (gates .exit)) (now (rights .exit)) (now (parents .exit)))) ⌝ }
+    ensures planted { λ r. ⌜ ((B : Block) → Given B n m (now (sources .entry)) (now (targets .entry)) (now («wire_delays» .entry)) → PlantedOrNot B r (plot (now (kinds .entry)) (now (lefts .entry)) (now (gates .entry)) (now (rights .entry)) (now (parents .entry))) (plot (now (kinds .exit)) (now (lefts .exit)) (now (gates .exit)) (now (rights .exit)) (now (parents .exit)))) ⌝ }
     ensures long { λ r. ⌜ NodesLong (plot (now (kinds .exit)) (now (lefts .exit)) (now (gates .exit)) (now (rights .exit)) (now (parents .exit))) ⌝ }
 {
     let mut live = [0u32; MAX_WIRES];

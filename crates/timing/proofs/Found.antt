@@ -15,8 +15,9 @@ use Rattle.model.specs.Slack.{latest-in, source-by}
 use Rattle.model.specs.Arrays.{wire-at, wires-in}
 use Rattle.model.proofs.Source.{Along, Came, at-base, by-wire, latest-same, latest-attained, source-equation}
 use Rattle.network.specs.Wires.{Lent, Wired}
-use Rattle.network.specs.Order.{Order}
-use Rattle.timing.specs.Times.{most-delay, time-bound, Walkable, Ready, LatestTimes}
+use Rattle.network.specs.Order.{Order, SameBeyond}
+use Rattle.network.proofs.Front.{set-beyond, front-written}
+use Rattle.timing.specs.Times.{most-delay, time-bound, Walkable, Ready, source-in, LatestTimes}
 
 -- a wire of the arrays' list stands at some place of the arrays
 pub wired : (m : ℕ) (sources targets delays : List ℕ) (a b w : ℕ) → Stands (wires-in m sources targets delays) a b w → Wired m sources targets a b
@@ -71,7 +72,7 @@ source-bounded n m sources targets delays d base of-wire of-gate (suc f) g h =
 
 module _ (n m : ℕ) (order sources targets wire-delays gate-delays heads links : List ℕ) (base : ℕ) (lent-times : List ℕ) (ready : Ready n m order sources targets wire-delays gate-delays heads links base lent-times) where
   abbrev source-time : ℕ → ℕ
-  source-time = source-by n (wires-in m sources targets wire-delays) (λ (h : ℕ). getD gate-delays h 0) base
+  source-time = source-in n m sources targets wire-delays gate-delays base
 
   source-small : (g : ℕ) → g < n → source-time g ≤ time-bound
   source-small g h =
@@ -88,6 +89,7 @@ module _ (n m : ℕ) (order sources targets wire-delays gate-delays heads links 
     pub same-length : length times ≡ length lent-times
     pub bounded : (g : ℕ) → getD times g 0 ≤ time-bound
     pub right : (g : ℕ) → g < n → ready .ordered .place g < k → getD times g 0 ≡ source-time g
+    pub beyond : SameBeyond n lent-times times
 
   pub found-none : Found 0 lent-times
   found-none =
@@ -96,6 +98,7 @@ module _ (n m : ℕ) (order sources targets wire-delays gate-delays heads links 
         same-length = refl;
         bounded = ready .walkable .bounded;
         right = λ (g : ℕ) (h : g < n) (l : ready .ordered .place g < 0). absurd (omega arith);
+        beyond = λ (i : ℕ) (h : n ≤ i). refl;
       }
 
   pub found-walkable : (k : ℕ) (times : List ℕ) → Found k times → Walkable n m sources targets wire-delays heads links times
@@ -142,6 +145,7 @@ module _ (n m : ℕ) (order sources targets wire-delays gate-delays heads links 
         same-length = length-set times g (latest + getD gate-delays g 0) ∙ f .same-length;
         bounded = small;
         right = all-right;
+        beyond = set-beyond n g (latest + getD gate-delays g 0) lent-times times in-block (f .beyond);
       }
     where
       in-block : g < n
@@ -169,8 +173,11 @@ module _ (n m : ℕ) (order sources targets wire-delays gate-delays heads links 
               let other : ready .ordered .place x ≢ k = λ (q : ready .ordered .place x ≡ k). o (sym (ready .ordered .stands-there x l) ∙ ap (λ (y : ℕ). getD order y 0) q ∙ sym e) in
               getD-set-other times g x (latest + getD gate-delays g 0) 0 o ∙ f .right x l (omega arith)
 
-  pub found-all : (times : List ℕ) → Found n times → LatestTimes n m sources targets wire-delays gate-delays base times
-  found-all times f g h = f .right g h (ready .ordered .has-place g h)
+  pub found-all : (times : List ℕ) → Found n times → LatestTimes n m sources targets wire-delays gate-delays base lent-times times
+  found-all times f =
+      front-written n source-time lent-times times (ready .walkable .times-long) (f .same-length)
+      (λ (g : ℕ) (h : g < n). f .right g h (ready .ordered .has-place g h))
+      (f .beyond)
 
   pub found-fits : (k g latest : ℕ) (times : List ℕ)
       → Found k times

@@ -16,7 +16,8 @@ use Rattle.model.proofs.Signed.{minus-minus}
 use Rattle.model.proofs.Slack.{zeros}
 use Rattle.model.proofs.Source.{Along, source-equation}
 use Rattle.model.proofs.Turned.{required-turned}
-use Rattle.timing.specs.Times.{Timeable, LatestTimes}
+use Rattle.network.proofs.Front.{front-at}
+use Rattle.timing.specs.Times.{Timeable, source-in, LatestTimes}
 use Rattle.timing.specs.Slacks.{Reversed, Slackable, Subtractable, left-at, slack-in}
 use Rattle.timing.proofs.Found.{along, source-bounded}
 use Rattle.timing.proofs.Reversal.{order-reversed, lent-turned, turn-arrays}
@@ -46,7 +47,7 @@ module _ (n m : ℕ) (order sources targets wire-delays gate-delays : List ℕ) 
         bounded = λ (g : ℕ). omega (arith, zeros max-gates g);
       }
 
-  module _ (back times tails : List ℕ) (reversed : Reversed n order back) (forth-right : LatestTimes n m sources targets wire-delays gate-delays arrival times) (back-right : LatestTimes n m targets sources wire-delays gate-delays 0 tails) where
+  module _ (back times tails : List ℕ) (reversed : Reversed n order back) (forth-right : LatestTimes n m sources targets wire-delays gate-delays arrival (no-increase max-gates) times) (back-right : LatestTimes n m targets sources wire-delays gate-delays 0 (no-increase max-gates) tails) where
     abbrev turned-along : Along (wires-in m targets sources wire-delays) n
     turned-along =
         along n m targets sources wire-delays back (lent-turned n m sources targets (able .lent))
@@ -55,12 +56,18 @@ module _ (n m : ℕ) (order sources targets wire-delays gate-delays : List ℕ) 
     abbrev delay : ℕ → ℕ
     delay h = getD gate-delays h 0
 
+    forth-at : (g : ℕ) → g < n → getD times g 0 ≡ source-in n m sources targets wire-delays gate-delays arrival g
+    forth-at = front-at n (source-in n m sources targets wire-delays gate-delays arrival) (no-increase max-gates) times forth-right
+
+    back-at : (g : ℕ) → g < n → getD tails g 0 ≡ source-in n m targets sources wire-delays gate-delays 0 g
+    back-at = front-at n (source-in n m targets sources wire-delays gate-delays 0) (no-increase max-gates) tails back-right
+
     -- the longest way on from the gate's output
     abbrev tail : ℕ → ℕ
     tail g = latest-in (wires-in m targets sources wire-delays) (source-by n (wires-in m targets sources wire-delays) delay 0) 0 g
 
     tail-is : (g : ℕ) → g < n → getD tails g 0 ≡ tail g + delay g
-    tail-is g h = back-right g h ∙ source-equation (wires-in m targets sources wire-delays) delay 0 n turned-along g h
+    tail-is g h = back-at g h ∙ source-equation (wires-in m targets sources wire-delays) delay 0 n turned-along g h
 
     pub subtractable : length times ≡ max-gates → length tails ≡ max-gates → Subtractable n times tails gate-delays deadline out
     subtractable times-long tails-long =
@@ -74,7 +81,7 @@ module _ (n m : ℕ) (order sources targets wire-delays gate-delays : List ℕ) 
               λ (g : ℕ) (h : g < n).
               omega (
                 arith,
-                forth-right g h,
+                forth-at g h,
                 source-bounded n m sources targets wire-delays delay arrival (λ (i : ℕ) (l : i < m). (able .delays .of-wire i l, able .lent .source-is-gate i l)) (able .delays .of-gate) n g h,
                 able .arrival-small,
                 able .lent .gates,
@@ -83,7 +90,7 @@ module _ (n m : ℕ) (order sources targets wire-delays gate-delays : List ℕ) 
               λ (g : ℕ) (h : g < n).
               omega (
                 arith,
-                back-right g h,
+                back-at g h,
                 source-bounded n m targets sources wire-delays delay 0 (λ (i : ℕ) (l : i < m). (able .delays .of-wire i l, able .lent .target-is-gate i l)) (able .delays .of-gate) n g h,
                 able .lent .gates,
               );
@@ -96,7 +103,7 @@ module _ (n m : ℕ) (order sources targets wire-delays gate-delays : List ℕ) 
         let turned = turn-arrays m sources targets wire-delays in
         let required : required-by n ws delay (pos deadline) g ≡ pos deadline -ℤ pos (tail g) =
         rw turned at (required-turned ws delay deadline n (rw (← turned) at turned-along) n g (turned-along .below g h)) in
-        let sum : getD times g 0 + (getD tails g 0 - delay g) ≡ tail g + source-by n ws delay arrival g = omega (arith, forth-right g h, tail-is g h) in
+        let sum : getD times g 0 + (getD tails g 0 - delay g) ≡ tail g + source-by n ws delay arrival g = omega (arith, forth-at g h, tail-is g h) in
         ap (λ (t : ℕ). pos deadline -ℤ pos t) sum
         ∙ sym (minus-minus deadline (tail g) (source-by n ws delay arrival g))
         ∙ ap (λ (z : ℤ). z -ℤ pos (source-by n ws delay arrival g)) (sym required)

@@ -7,7 +7,8 @@ use lib.ListN.{getD}
 use Rattle.model.specs.Limits.{max-gates}
 use Rattle.model.specs.InTime.{no-increase}
 use Rattle.model.proofs.Slack.{zeros}
-use Rattle.timing.specs.Times.{Timeable, LatestTimes}
+use Rattle.network.proofs.Front.{front-at}
+use Rattle.timing.specs.Times.{Timeable, source-in, LatestTimes}
 use Rattle.timing.specs.Start.{Startable, StartIs}
 use Rattle.timing.proofs.Found.{source-bounded}
 
@@ -24,15 +25,16 @@ module _ (n m : ℕ) (order sources targets wire-delays gate-delays : List ℕ) 
         bounded = λ (g : ℕ). omega (arith, zeros max-gates g);
       }
 
-  pub start-found : (times : List ℕ) → LatestTimes n m sources targets wire-delays gate-delays 0 times → StartIs n m sources targets wire-delays gate-delays (getD times (n - 1) 0)
+  pub start-found : (times : List ℕ) → LatestTimes n m sources targets wire-delays gate-delays 0 (no-increase max-gates) times → StartIs n m sources targets wire-delays gate-delays (getD times (n - 1) 0)
   start-found times right =
       let below : n - 1 < n = omega (arith, s .some) in
+      let last = front-at n (source-in n m sources targets wire-delays gate-delays 0) (no-increase max-gates) times right (n - 1) below in
       record {
-        is = right (n - 1) below;
+        is = last;
         small =
             omega (
               arith,
-              right (n - 1) below,
+              last,
               source-bounded n m sources targets wire-delays (λ (x : ℕ). getD gate-delays x 0) 0
                   (λ (i : ℕ) (h : i < m). (s .delays .of-wire i h, s .lent .source-is-gate i h)) (s .delays .of-gate) n (n - 1) below,
               s .lent .gates,

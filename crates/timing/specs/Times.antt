@@ -3,6 +3,7 @@ use mathlib.Core.Path.{_≡_}
 use mathlib.Core.List.{List}
 use Prim.Native.Nat.{ℕ, _+_, _*_, _≤_, _<_}
 use lib.ListN.{length, getD}
+use Rattle.lists.specs.Over.{build, over}
 use Rattle.model.specs.Limits.{max-delay, max-steps, max-width, max-time}
 use Rattle.model.specs.Slack.{source-by}
 use Rattle.model.specs.Arrays.{wires-in}
@@ -36,11 +37,15 @@ pub record Walkable (n m : ℕ) (sources targets wire-delays heads links times :
   pub times-long : n ≤ length times
   pub bounded : (g : ℕ) → getD times g 0 ≤ time-bound
 
--- `times` holds, for each of the first n gates, the latest time at its output where signals start at `base`.
-abbrev pub LatestTimes : ℕ → ℕ → List ℕ → List ℕ → List ℕ → List ℕ → ℕ → List ℕ → Type 0
-LatestTimes n m sources targets wire-delays gate-delays base times =
-    (g : ℕ) → g < n
-    → getD times g 0 ≡ source-by n (wires-in m sources targets wire-delays) (λ (h : ℕ). getD gate-delays h 0) base g
+-- the latest time at each gate's output where signals start at `base`
+abbrev pub source-in : ℕ → ℕ → List ℕ → List ℕ → List ℕ → List ℕ → ℕ → ℕ → ℕ
+source-in n m sources targets wire-delays gate-delays base =
+    source-by n (wires-in m sources targets wire-delays) (λ (h : ℕ). getD gate-delays h 0) base
+
+-- The first n elements of `times` are the gates' latest times, all others are as in `before`.
+abbrev pub LatestTimes : ℕ → ℕ → List ℕ → List ℕ → List ℕ → List ℕ → ℕ → List ℕ → List ℕ → Type 0
+LatestTimes n m sources targets wire-delays gate-delays base before times =
+    times ≡ over (build n (source-in n m sources targets wire-delays gate-delays base)) before
 
 -- The gates stand in an order along the wires, the wires are chained by their targets, and `times` has room for n times.
 pub record Ready (n m : ℕ) (order sources targets wire-delays gate-delays heads links : List ℕ) (base : ℕ) (times : List ℕ) : Type 0 where

@@ -10,7 +10,7 @@ use crate::number::larger;
 
 // The latest time at which a wire has brought its signal to gate g; `base` where no wire leads there.
 // Each wire into the gate is looked at once. (`targets` is there for the promise.)
-pub fn latest_into(
+fn latest_into(
     g: usize,
     n: usize,
     m: usize,
@@ -36,7 +36,7 @@ pub fn latest_into(
     latest
 }
 
-// The latest time at the output of each of n gates, where signals start at `base`.
+// The latest time at the output of each of n gates, where signals start at `base`, to the front of `times`.
 pub fn latest_times(
     n: usize,
     m: usize,
@@ -51,7 +51,7 @@ pub fn latest_times(
     times: &mut [u32],
 )
     requires { ⌜ Ready n m (now order) (now sources) (now targets) (now «wire_delays») (now «gate_delays») (now heads) (now links) base (now times) ⌝ }
-    ensures { λ r. ⌜ LatestTimes n m (now (sources .entry)) (now (targets .entry)) (now («wire_delays» .entry)) (now («gate_delays» .entry)) base (now (times .exit)) ⌝ }
+    ensures { λ r. ⌜ LatestTimes n m (now (sources .entry)) (now (targets .entry)) (now («wire_delays» .entry)) (now («gate_delays» .entry)) base (now (times .entry)) (now (times .exit)) ⌝ }
 {
     let mut k: usize = 0;
     while k < n {

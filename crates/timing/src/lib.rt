@@ -1,7 +1,7 @@
 // Longest paths through a network of gates, and the slacks they leave, on lent arrays.
-pub mod chain;
-pub mod latest;
-pub mod number;
+mod chain;
+mod latest;
+mod number;
 pub mod slack;
 pub mod start;
 pub mod times;

@@ -10,7 +10,7 @@ use crate::times::times_from;
 use model::limits::MAX_GATES;
 
 // The first n elements of an order, the other way round.
-pub fn reverse_order(n: usize, order: &[u32], back: &mut [u32])
+fn reverse_order(n: usize, order: &[u32], back: &mut [u32])
     requires { ⌜ (n ≤ max-gates) × (n ≤ length (now order)) × (n ≤ length (now back)) ⌝ }
     ensures { λ r. ⌜ Reversed n (now (order .entry)) (now (back .exit)) ⌝ }
 {
@@ -22,7 +22,7 @@ pub fn reverse_order(n: usize, order: &[u32], back: &mut [u32])
 }
 
 // For each gate, what its latest time and the longest way on leave of the deadline. A gate's own delay stands in both times and counts once.
-pub fn subtract_times(
+fn subtract_times(
     n: usize,
     times: &[u32],
     tails: &[u32],

@@ -1,12 +1,6 @@
-// Start, the longest path with no increase, and spare, what it leaves of the deadline.
-use crate::number::left_of;
+// Start, the longest path with no increase.
 use crate::times::times_from;
 use model::limits::MAX_GATES;
-ghost use mathlib.Core.Path.{_≡_};
-ghost use Prim.Native.Nat.{_+_, _≤_};
-ghost use lib.IntN.{pos, _-ℤ_};
-ghost use Rattle.model.specs.Limits.{max-time};
-ghost use Rattle.timing.specs.Times.{time-bound};
 ghost use Rattle.timing.specs.Start.{Startable, StartIs};
 
 // How long a longest path from the first gate to the last lasts as drawn.
@@ -35,12 +29,4 @@ pub fn start_time(
         &mut times,
     );
     times[n - 1]
-}
-
-// Deadline less arrival less start, negative when late.
-pub fn spare_time(arrival: u32, deadline: u32, start: u32) -> i32
-    requires { ⌜ (arrival ≤ max-time) × (deadline ≤ max-time) × (start ≤ time-bound) ⌝ }
-    ensures { λ r. ⌜ r ≡ pos deadline -ℤ pos (arrival + start) ⌝ }
-{
-    left_of(deadline, arrival + start)
 }

@@ -5,7 +5,7 @@ use crate::latest::latest_times;
 use model::limits::MAX_GATES;
 use model::limits::MAX_WIRES;
 
-// The latest time at the output of each of n gates, where signals start at `base`.
+// The latest time at the output of each of n gates, where signals start at `base`, to the front of `times`.
 pub fn times_from(
     n: usize,
     m: usize,
@@ -18,7 +18,7 @@ pub fn times_from(
     times: &mut [u32],
 )
     requires { ⌜ Timeable n m (now order) (now sources) (now targets) (now «wire_delays») (now «gate_delays») base (now times) ⌝ }
-    ensures { λ r. ⌜ LatestTimes n m (now (sources .entry)) (now (targets .entry)) (now («wire_delays» .entry)) (now («gate_delays» .entry)) base (now (times .exit)) ⌝ }
+    ensures { λ r. ⌜ LatestTimes n m (now (sources .entry)) (now (targets .entry)) (now («wire_delays» .entry)) (now («gate_delays» .entry)) base (now (times .entry)) (now (times .exit)) ⌝ }
 {
     let mut heads = [0u32; MAX_GATES];
     let mut links = [0u32; MAX_WIRES];

@@ -24,7 +24,7 @@ returns c =
     let a = entry .args in
     let o = order-gates .last .1 .1 .1 .1 .0 in
     let e = not-true (order-gates .result) (c .before .if1 .taken) in (
-      λ B I E. lowest-found B (a .n) (a .m) (a .sources .now) (a .targets .now) I (entry .pre .0)
+      λ B I. lowest-found B (a .n) (a .m) (a .sources .now) (a .targets .now) I (entry .pre .0)
           (subst (OrderFound B o) e (order-gates .ensures .0 B I)) (c .lowest-on-loop .result) (c .lowest-on-loop .ensures B I),
       order-gates .ensures .1,
     )
@@ -48,8 +48,8 @@ returns-2 c =
     let lowest-at-fault = c .before .before .lowest-at-fault in
     let o = order-gates .last .1 .1 .1 .1 .0 in
     let e = not-false (order-gates .result) (if1 .left) in (
-      λ B I E. sound-judged B o (subst (OrderFound B o) e (order-gates .ensures .0 B I))
-          (subst (FaultFound B) (c .enum-told .given .1) (lowest-at-fault .ensures B I E)),
+      λ B I. sound-judged B o (subst (OrderFound B o) e (order-gates .ensures .0 B I))
+          (subst (FaultFound B) (c .enum-told .given .1) (lowest-at-fault .ensures B I)),
       order-gates .ensures .1,
     )
 
@@ -63,8 +63,8 @@ returns-3 c =
     let lowest-at-fault = c .before .before .before .lowest-at-fault in
     let o = order-gates .last .1 .1 .1 .1 .0 in
     let e = not-false (order-gates .result) (if1 .left) in (
-      λ B I E. ends-judged B o (subst (OrderFound B o) e (order-gates .ensures .0 B I)) _
-          (subst (FaultFound B) (c .before .faults .given .1) (lowest-at-fault .ensures B I E)),
+      λ B I. ends-judged B o (subst (OrderFound B o) e (order-gates .ensures .0 B I)) _
+          (subst (FaultFound B) (c .before .faults .given .1) (lowest-at-fault .ensures B I)),
       order-gates .ensures .1,
     )
 

@@ -1,21 +1,24 @@
 -- `gains::inputs::clear` meets its contract: the first g elements are 0. Assumes nothing.
 use borrow.Author.Needs.{needs}
-use mathlib.Core.Path.{_≡_, refl, _∙_}
-use Prim.Native.Nat.{ℕ, _≤_, _<_, _-_}
+use mathlib.Core.Path.{_≡_, refl, sym, _∙_}
+use Prim.Native.Nat.{ℕ, _≤_, _-_}
 use native.Mathlib.Omega.{arith}
-use lib.ListN.{length, getD, length-set}
+use lib.ListN.{length, length-set}
+use Rattle.lists.specs.Over.{build, over}
+use Rattle.lists.proofs.Over.{over-none}
 use Rattle.gains.proofs.Activities.{cleared-more}
 use Rattle.gains.proofs.inputs.clear.Statement.{statement}
 use Rattle.gains.proofs.inputs.clear.Tie as tie
 
 abbrev Inv-loop : tie.InvT-loop
-Inv-loop n out₀ g₀ out g = (g ≤ n) × (length out ≡ length out₀) × ((h : ℕ) → h < g → getD out h 0 ≡ 0)
+Inv-loop n out₀ g₀ out g = (g ≤ n) × (length out ≡ length out₀) × (out ≡ over (build g (λ (h : ℕ). 0)) out₀)
 
 abbrev μ-loop : tie.MeasureT-loop
 μ-loop n out₀ g₀ out g = n - g
 
 loop-holds : tie.Need-loop-holds Inv-loop μ-loop
-loop-holds c = (omega arith, refl, λ h l. absurd (omega arith))
+unfolding build
+loop-holds c = (omega arith, refl, sym (over-none _))
 
 mul-out : tie.Need-mul-out Inv-loop μ-loop
 mul-out c = search needs
@@ -30,7 +33,7 @@ loop-less : tie.Need-loop-less Inv-loop μ-loop
 loop-less c = search needs
 
 loop-again : tie.Need-loop-again Inv-loop μ-loop
-loop-again c = (omega arith, length-set (c .before .loop .out) (c .before .loop .g) 0 ∙ c .before .loop .inv .1, cleared-more (c .before .loop .g) (c .before .loop .out) (omega arith) (c .before .loop .inv .2))
+loop-again c = (omega arith, length-set (c .before .loop .out) (c .before .loop .g) 0 ∙ c .before .loop .inv .1, cleared-more (c .before .loop .g) _ (c .before .loop .out) (omega arith) (c .before .loop .inv .2))
 
 same-length : tie.Need-same-length Inv-loop μ-loop
 same-length c = c .before .loop .inv .1

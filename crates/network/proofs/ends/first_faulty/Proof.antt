@@ -10,14 +10,14 @@ use Rattle.network.proofs.ends.first_faulty.Statement.{statement}
 use Rattle.network.proofs.ends.first_faulty.Tie as tie
 
 abbrev Inv-loop : tie.InvT-loop
-Inv-loop n first last ins outs g₀ g = (g ≤ n) × ((q : ℕ) → q < g → ¬ (Faulty first last ins outs q))
+Inv-loop n ins outs g₀ g = (g ≤ n) × ((q : ℕ) → q < g → ¬ (Faulty n ins outs q))
 
 abbrev μ-loop : tie.MeasureT-loop
-μ-loop n first last ins outs g₀ g = n - g
+μ-loop n ins outs g₀ g = n - g
 
 loop-holds : tie.Need-loop-holds Inv-loop μ-loop
 loop-holds c = let a = c .before .before .args in
-    (omega arith, below-none (λ (q : ℕ). ¬ (Faulty (a .first) (a .last) (a .ins .now) (a .outs .now) q)))
+    (omega arith, below-none (λ (q : ℕ). ¬ (Faulty (a .n) (a .ins .now) (a .outs .now) q)))
 
 faulty-requires : tie.Need-faulty-requires Inv-loop μ-loop
 faulty-requires c κs = search needs
@@ -28,7 +28,7 @@ returns c =
     let loop = c .before .before .before .loop in
     let loop-test = c .before .before .loop-test in
     let a = entry .args in
-    first-found (Faulty (a .first) (a .last) (a .ins .now) (a .outs .now)) (a .n) (loop .g) (loop-test .taken) (loop .inv .1) (rw (c .if1 .taken) at (c .before .faulty .ensures))
+    first-found (Faulty (a .n) (a .ins .now) (a .outs .now)) (a .n) (loop .g) (loop-test .taken) (loop .inv .1) (rw (c .if1 .taken) at (c .before .faulty .ensures))
 
 add-g : tie.Need-add-g Inv-loop μ-loop
 add-g c = search needs
@@ -41,14 +41,14 @@ loop-again c =
     let entry = c .before .before .before .before .before .before in
     let loop = c .before .before .before .loop in
     let a = entry .args in
-    (omega arith, below-more (λ (q : ℕ). ¬ (Faulty (a .first) (a .last) (a .ins .now) (a .outs .now) q)) (loop .g) (loop .inv .1) (rw (c .if1 .left) at (c .before .faulty .ensures)))
+    (omega arith, below-more (λ (q : ℕ). ¬ (Faulty (a .n) (a .ins .now) (a .outs .now) q)) (loop .g) (loop .inv .1) (rw (c .if1 .left) at (c .before .faulty .ensures)))
 
 returns-2 : tie.Need-returns-2 Inv-loop μ-loop
 returns-2 c =
     let entry = c .before .before .before .before in
     let loop = c .before .loop in
     let a = entry .args in
-    first-none (Faulty (a .first) (a .last) (a .ins .now) (a .outs .now)) (a .n) (loop .g) (omega arith) (loop .inv .1)
+    first-none (Faulty (a .n) (a .ins .now) (a .outs .now)) (a .n) (loop .g) (omega arith) (loop .inv .1)
 
 pub first-faulty-spec : {M : Type 1} → statement M
 first-faulty-spec = tie.close (tie.spec Inv-loop μ-loop loop-holds faulty-requires returns add-g loop-less loop-again returns-2)

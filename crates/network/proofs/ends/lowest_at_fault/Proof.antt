@@ -53,7 +53,7 @@ returns c =
     let first-faulty = c .before .first-faulty in
     let a = entry .args in
     let few = entry .pre .gates in
-    λ B I E. fault-found B (a .n) (a .m) (a .sources .now) (a .targets .now) I (entry .pre) (a .first) (a .last) E
+    λ B I. fault-found B (a .n) (a .m) (a .sources .now) (a .targets .now) I (entry .pre)
     (mark-keys .last .1 .1 .0) (mark-keys2 .last .1 .1 .0)
     (mark-keys .ensures (a .n) (λ g h. getD-replicate {A = ℕ} 64 g 0 0 (omega arith)))
     (mark-keys2 .ensures (a .n) (λ g h. getD-replicate {A = ℕ} 64 g 0 0 (omega arith)))
@@ -67,7 +67,7 @@ returns-2 c =
     let first-faulty = c .before .first-faulty in
     let a = entry .args in
     let few = entry .pre .gates in
-    λ B I E. no-fault B (a .n) (a .m) (a .sources .now) (a .targets .now) I (entry .pre) (a .first) (a .last) E
+    λ B I. no-fault B (a .n) (a .m) (a .sources .now) (a .targets .now) I (entry .pre)
     (mark-keys .last .1 .1 .0) (mark-keys2 .last .1 .1 .0)
     (mark-keys .ensures (a .n) (λ g h. getD-replicate {A = ℕ} 64 g 0 0 (omega arith)))
     (mark-keys2 .ensures (a .n) (λ g h. getD-replicate {A = ℕ} 64 g 0 0 (omega arith)))

@@ -1,22 +1,25 @@
 -- `resizing::longest::slow_gates` meets its contract: the first g gates are slowed. Assumes nothing.
 use borrow.Author.Needs.{needs}
-use mathlib.Core.Path.{_≡_, refl, _∙_}
+use mathlib.Core.Path.{_≡_, refl, sym, _∙_}
 use Prim.Native.Nat.{_≤_, _-_}
 use native.Mathlib.Omega.{arith}
 use lib.ListN.{length, length-set}
+use Rattle.lists.specs.Over.{build}
+use Rattle.lists.proofs.Over.{over-none}
 use Rattle.resizing.specs.Slowed.{Added}
 use Rattle.resizing.proofs.Slowing.{added-more}
 use Rattle.resizing.proofs.longest.slow_gates.Statement.{statement}
 use Rattle.resizing.proofs.longest.slow_gates.Tie as tie
 
 abbrev Inv-loop : tie.InvT-loop
-Inv-loop n delays increases slowed₀ g₀ slowed g = (g ≤ n) × (length slowed ≡ length slowed₀) × Added g delays increases slowed
+Inv-loop n delays increases slowed₀ g₀ slowed g = (g ≤ n) × (length slowed ≡ length slowed₀) × Added g delays increases slowed₀ slowed
 
 abbrev μ-loop : tie.MeasureT-loop
 μ-loop n delays increases slowed₀ g₀ slowed g = n - g
 
 loop-holds : tie.Need-loop-holds Inv-loop μ-loop
-loop-holds c = (omega arith, refl, record { sum = λ k h. absurd (omega arith) })
+unfolding build
+loop-holds c = (omega arith, refl, sym (over-none _))
 
 mul-slowed : tie.Need-mul-slowed Inv-loop μ-loop
 mul-slowed c = omega (arith, c .before .before .pre .gates)
@@ -46,7 +49,14 @@ loop-less : tie.Need-loop-less Inv-loop μ-loop
 loop-less c = search needs
 
 loop-again : tie.Need-loop-again Inv-loop μ-loop
-loop-again c = (omega arith, length-set (c .before .before .before .loop .slowed) (c .before .before .before .loop .g) _ ∙ c .before .before .before .loop .inv .1, added-more (c .before .before .before .loop .g) _ _ (c .before .before .before .loop .slowed) (omega (arith, c .before .before .before .before .pre .slowed-long)) (c .before .before .before .loop .inv .2))
+loop-again c =
+    let entry = c .before .before .before .before in
+    let loop = c .before .before .before .loop in
+    let a = entry .args in (
+      omega arith,
+      length-set (loop .slowed) (loop .g) _ ∙ loop .inv .1,
+      added-more (loop .g) (a .delays .now) (a .increases .now) (a .slowed .now) (loop .slowed) (omega (arith, entry .pre .slowed-long)) (loop .inv .2),
+    )
 
 same-length : tie.Need-same-length Inv-loop μ-loop
 same-length c = c .before .loop .inv .1
