@@ -102,7 +102,7 @@ module _ {n g : ℕ} {left order₀ order : List ℕ} {count : ℕ} (F : FreePla
         place = place;
         long = F .long;
         numbered = F .numbered;
-        free = λ h l z. ⊎-elim (λ e. absurd (d (rw e at z))) (λ b. F .free h b z) (eq-or-lt-of-le (let k = l in omega arith));
+        free = λ h l z. ⊎-elim (λ e. absurd (d (rw e at z))) (λ b. F .free h b z) (eq-or-lt-of-le (omega arith));
         only = λ h l p. let o = F .only h l p in (omega (arith, o .0), o .1);
         beyond = F .beyond;
       }
