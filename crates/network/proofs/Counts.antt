@@ -6,7 +6,7 @@ use mathlib.Core.List.{List}
 use Prim.Native.Nat.{ℕ, zero, suc, _+_, _≤_, _<_}
 use native.Mathlib.Numerals.{add-one}
 use native.Mathlib.Nat.{not-suc-le-zero, le-of-suc-le-suc, eq-or-lt-of-le, le-refl}
-use native.Mathlib.Decide.{ℕ-discrete, decLt}
+use native.Mathlib.Decide.{ℕ-discrete}
 use native.Mathlib.Omega.{arith}
 use lib.Dec.{eqb}
 use lib.ListN.{length, getD, set, length-set, replicate, length-replicate, getD-replicate}
@@ -83,12 +83,8 @@ module _ {n g : ℕ} {left order₀ order : List ℕ} {count : ℕ} (F : FreePla
   abbrev place : List ℕ
   place = F .place
 
-  unplaced-by : Dec (getD place g 0 < n) → n ≤ getD place g 0
-  unplaced-by (yes p) = let o = F .only g gate p in absurd (omega (arith, o .0))
-  unplaced-by (no d) = omega arith
-
   unplaced : n ≤ getD place g 0
-  unplaced = unplaced-by (decLt (getD place g 0) n)
+  unplaced = let d : ¬ (getD place g 0 < n) = λ p. omega (arith, F .only g gate p .0) in omega arith
 
   pub free-room : count < n
   free-room = room (λ (a b : ℕ). ⊥) n (λ a b e. absurd e) place order count (F .numbered) g gate unplaced

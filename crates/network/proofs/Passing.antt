@@ -160,12 +160,10 @@ module _ {n m : ℕ} {sources targets : List ℕ} (L : Lent n m sources targets)
     from-here : getD place (getD sources i 0) 0 ≡ done
     from-here = rw from (C .placed .place-of done few)
 
-    is-ahead-by : Dec (ahead i ≡ 0) → ahead i ≡ 1
-    is-ahead-by (yes z) = let p = C .so-far .passed-before i wire z (omega arith) in let e = from-here in absurd (omega arith)
-    is-ahead-by (no d) = let a = C .so-far .at-most i in omega arith
-
     is-ahead : ahead i ≡ 1
-    is-ahead = is-ahead-by (ℕ-discrete (ahead i) 0)
+    is-ahead =
+        let d : ahead i ≢ 0 = λ z. let e = from-here in omega (arith, C .so-far .passed-before i wire z (omega arith)) in
+        omega (arith, C .so-far .at-most i)
 
     to-gate : g < n
     to-gate = let t = L .target-is-gate i wire in omega arith
@@ -177,12 +175,10 @@ module _ {n m : ℕ} {sources targets : List ℕ} (L : Lent n m sources targets)
         let a = is-ahead in
         omega (arith, C .left-is g to-gate)
 
-    unplaced-by : Dec (getD place g 0 < n) → n ≤ getD place g 0
-    unplaced-by (yes p) = let z = C .only g to-gate p in let s = some-left in absurd (omega arith)
-    unplaced-by (no d) = omega arith
-
     unplaced : n ≤ getD place g 0
-    unplaced = unplaced-by (decLt (getD place g 0) n)
+    unplaced =
+        let d : ¬ (getD place g 0 < n) = λ p. let s = some-left in omega (arith, C .only g to-gate p) in
+        omega arith
 
     pass-room : count < n
     pass-room = room E n (wired-gates L) place order count (C .placed) g to-gate unplaced
@@ -321,20 +317,17 @@ module _ {n m : ℕ} {sources targets : List ℕ} (L : Lent n m sources targets)
         let s = sum-some m (into targets (C .ahead) g) (λ z. let p = C .free g h (C .left-is g h ∙ z) in omega arith) in
         from (s .0) (s .1) (s .2) (ℕ-discrete (getD targets (s .0) 0) g)
       where
-        unplaced-by : (a : ℕ) → a < n → count ≤ getD (C .place) a 0 → Dec (getD (C .place) a 0 < n) → n ≤ getD (C .place) a 0
-        unplaced-by a l b (yes p) = let q = C .placed .has-place a l p in absurd (omega arith)
-        unplaced-by a l b (no d) = omega arith
-
         from : (i : ℕ) → i < m → into targets (C .ahead) g i ≢ 0 → Dec (getD targets i 0 ≡ g) → Waits E n (C .place) g
         from i l d (no k) = absurd (d (into-other targets (C .ahead) g i k))
         from i l d (yes e) =
             let t = into-here targets (C .ahead) g i e in
             let o = C .so-far .at-most i in
             let w = C .so-far .waiting i l (omega arith) in
+            let u : ¬ (getD (C .place) (getD sources i 0) 0 < n) = λ p. omega (arith, C .placed .has-place (getD sources i 0) (L .source-is-gate i l) p) in
             record {
               source = getD sources i 0;
               wire = record { place = i; below = l; source = refl; target = e };
-              unplaced = unplaced-by (getD sources i 0) (L .source-is-gate i l) w (decLt (getD (C .place) (getD sources i 0) 0) n);
+              unplaced = omega arith;
             }
 
     pub counted-loop : count ≢ n → (g : ℕ) × Reach E g g
