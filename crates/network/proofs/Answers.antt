@@ -3,20 +3,25 @@
 use mathlib.Core.Bool.{true, false}
 use mathlib.Core.List.{List}
 use Prim.Native.Nat.{ℕ}
+use lib.Dec.{eqb}
+use borrow.Author.Tests.{eqb-true, eqb-false}
+use Rattle.lists.proofs.Bool.{cases}
 use Rattle.model.specs.Block.{Block}
 use Rattle.model.specs.Refusal.{OnLoop}
 use Rattle.network.specs.Wires.{Lent, Wired, InArrays}
 use Rattle.network.specs.Order.{Order}
+use Rattle.network.specs.Counts.{Counted}
 use Rattle.network.specs.Marks.{First}
 use Rattle.network.specs.Square.{Paired, PairMarks, Closed}
 use Rattle.network.specs.Judged.{OrderFound}
 use Rattle.network.proofs.Reach.{Reach}
+use Rattle.network.proofs.Passing.{counted-order, counted-loop}
 use Rattle.network.proofs.Marks.{first-same}
 use Rattle.network.proofs.Square.{marked-reaches, reaching-marked}
 use Rattle.network.proofs.Wires.{wired-gates, joined-wired, wired-loop, loop-wired}
 
 module _ (B : Block) (n m : ℕ) (sources targets : List ℕ) (I : InArrays B n m sources targets) where
-  pub order-found : (order : List ℕ) → Order (Wired m sources targets) n order → OrderFound B order true
+  order-found : (order : List ℕ) → Order (Wired m sources targets) n order → OrderFound B order true
   order-found order O =
       rw (I .gates)
       (record {
@@ -28,8 +33,15 @@ module _ (B : Block) (n m : ℕ) (sources targets : List ℕ) (I : InArrays B n 
         forward = λ a b j. O .forward a b (joined-wired B n m sources targets I a b j);
       })
 
-  pub loop-found : (order : List ℕ) → (g : ℕ) × Reach (Wired m sources targets) g g → OrderFound B order false
+  loop-found : (order : List ℕ) → (g : ℕ) × Reach (Wired m sources targets) g g → OrderFound B order false
   loop-found order r = (r .0, wired-loop B n m sources targets I (r .0) (r .1))
+
+  -- when every placed gate has had its turn, all gates are placed or there is a loop
+  pub order-judged : Lent n m sources targets → {left order : List ℕ} {count : ℕ} → Counted n m sources targets left order count count m → OrderFound B order (eqb count n)
+  order-judged L {order = order} {count} C =
+      cases (eqb count n)
+      (λ p. rw p (order-found order (counted-order L C (eqb-true count n p))))
+      (λ p. rw p (loop-found order (counted-loop L C (eqb-false count n p))))
 
   -- the first gate whose pair with itself is marked is the lowest on a loop
   pub first-on-loop : Lent n m sources targets → (start square : List ℕ) → PairMarks (Wired m sources targets) n start → Closed start n n square

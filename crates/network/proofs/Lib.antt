@@ -1,11 +1,15 @@
 pub mod Reach
 pub mod Loop
 pub mod Pigeonhole
-pub mod Rounds
+pub mod Placing
 pub mod Marks
 pub mod Square
 pub mod Wires
 pub mod Front
+pub mod Chains
+pub mod Counts
+pub mod Passing
+pub mod Turns
 pub mod Misplaced
 pub mod Answers
 pub mod Judgement

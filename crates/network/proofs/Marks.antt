@@ -15,9 +15,6 @@ use Rattle.network.specs.Marks.{Marks, Among, First}
 pub marks-none : (P : ℕ → Type 0) (n : ℕ) (marks : List ℕ) → ((g : ℕ) → g < n → getD marks g 0 ≡ 0) → ((g : ℕ) → ¬ (P g)) → Marks P n marks
 marks-none P n marks zeros none = record { right = λ g h d. absurd (d (zeros g h)); whole = λ g h p. absurd (none g p) }
 
-pub marks-same : (P Q : ℕ → Type 0) (n : ℕ) (marks : List ℕ) → ((g : ℕ) → P g → Q g) → ((g : ℕ) → Q g → P g) → Marks P n marks → Marks Q n marks
-marks-same P Q n marks to from M = record { right = λ g h d. to g (M .right g h d); whole = λ g h q. M .whole g h (from g q) }
-
 -- where Q is P and x, the mark of x is set
 module _ (P Q : ℕ → Type 0) (n : ℕ) (marks : List ℕ) (x : ℕ) (long : x < length marks) (more : (g : ℕ) → P g → Q g) (here : Q x) (only : (g : ℕ) → Q g → (g ≡ x) ⊎ P g) (M : Marks P n marks) where
   right⁺ : (g : ℕ) → g < n → Dec (g ≡ x) → getD (set marks x 1) g 0 ≢ 0 → Q g

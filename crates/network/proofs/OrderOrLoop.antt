@@ -10,9 +10,9 @@ use native.Mathlib.Decide.{decLe, ℕ-discrete}
 use lib.ListN.{length, getD, set, length-set, replicate, length-replicate, getD-replicate}
 use Rattle.model.specs.Block.{Wire, Block, gate-count, Joined}
 use Rattle.model.specs.Refusal.{OnLoop}
-use Rattle.network.specs.Order.{Order, Placed, Waits}
+use Rattle.network.specs.Order.{Order, Placed}
 use Rattle.network.proofs.Reach.{Reach, from-reaches, to-reaches}
-use Rattle.network.proofs.Rounds.{none-placed, placed-next, whole-order, stuck-loop}
+use Rattle.network.proofs.Placing.{Waits, none-placed, placed-next, whole-order, stuck-loop}
 use Rattle.network.proofs.Judgement.{no-loop}
 
 module _ (E : ℕ → ℕ → Type 0) (n : ℕ) (joins-gates : (a b : ℕ) → E a b → (a < n) × (b < n)) (decided : (a b : ℕ) → Dec (E a b)) where

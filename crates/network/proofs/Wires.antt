@@ -1,7 +1,7 @@
 -- The wires of the arrays, one after another, and as the wires of a block.
 -- Assumes nothing.
 use mathlib.Core.Path.{_≡_, refl, sym, _∙_, ap}
-use mathlib.Core.Logic.{_⊎_, inl, inr, ⊎-elim, ⊎-map}
+use mathlib.Core.Logic.{_⊎_, inl, inr}
 use mathlib.Core.List.{List}
 use Prim.Native.Nat.{ℕ, _+_, _≤_, _<_}
 use native.Mathlib.Nat.{not-suc-le-zero, eq-or-lt-of-le}
@@ -13,11 +13,8 @@ use Rattle.model.specs.Block.{Wire, Block, Joined}
 use Rattle.model.specs.Arrays.{wire-at}
 use Rattle.model.specs.Refusal.{OnLoop}
 use Rattle.network.specs.Wires.{Lent, Wired, InArrays}
-use Rattle.network.specs.Marks.{Marks}
-use Rattle.network.specs.Order.{Waits, WireVisit, source-unplaced, source-placed}
 use Rattle.network.specs.Square.{pair-place, square-size, Paired, PairMarks}
 use Rattle.network.proofs.Reach.{Reach, reach-map, from-reaches, to-reaches}
-use Rattle.network.proofs.Marks.{marks-more, marks-same}
 use Rattle.network.proofs.Square.{paired-here, paired-kept, paired-old}
 
 pub wired-gates : {n m : ℕ} {sources targets : List ℕ} → Lent n m sources targets → (a b : ℕ) → Wired m sources targets a b → (a < n) × (b < n)
@@ -48,9 +45,6 @@ module _ (sources targets : List ℕ) where
   pub wired-none : (a b : ℕ) → ¬ (Wired 0 sources targets a b)
   wired-none a b w = not-suc-le-zero (w .below)
 
-  pub waits-none : (n : ℕ) (place : List ℕ) (g : ℕ) → ¬ (Waits (Wired 0 sources targets) n place g)
-  waits-none n place g w = wired-none (w .source) g (w .wire)
-
   pub pairs-none : (n : ℕ) (square : List ℕ) → n ≤ max-gates → ((i : ℕ) → i < square-size → getD square i 0 ≡ 0) → PairMarks (Wired 0 sources targets) n square
   pairs-none n square few zeros =
       record {
@@ -71,38 +65,6 @@ module _ (sources targets : List ℕ) where
         go : (w .place ≡ i) ⊎ (w .place < i) → ((a ≡ getD sources i 0) × (b ≡ getD targets i 0)) ⊎ Wired i sources targets a b
         go (inl e) = inl (sym (w .source) ∙ ap (λ (j : ℕ). getD sources j 0) e, sym (w .target) ∙ ap (λ (j : ℕ). getD targets j 0) e)
         go (inr l) = inr (record { place = w .place; below = l; source = w .source; target = w .target })
-
-    -- The marks of the gates that wait, with one wire more.
-    module _ (n : ℕ) (place : List ℕ) where
-      waits-more : (g : ℕ) → Waits (Wired i sources targets) n place g → Waits (Wired (i + 1) sources targets) n place g
-      waits-more g w = record { source = w .source; wire = wired-more (w .source) g (w .wire); unplaced = w .unplaced }
-
-      waits-last : (g : ℕ) (w : Waits (Wired (i + 1) sources targets) n place g)
-          → ((w .source ≡ getD sources i 0) × (g ≡ getD targets i 0)) ⊎ Waits (Wired i sources targets) n place g
-      waits-last g w = go (wired-last (w .source) g (w .wire))
-        where
-          go : ((w .source ≡ getD sources i 0) × (g ≡ getD targets i 0)) ⊎ Wired i sources targets (w .source) g
-              → ((w .source ≡ getD sources i 0) × (g ≡ getD targets i 0)) ⊎ Waits (Wired i sources targets) n place g
-          go (inl e) = inl e
-          go (inr x) = inr (record { source = w .source; wire = x; unplaced = w .unplaced })
-
-      pub waits-visited : (marks : List ℕ) (s t : ℕ) → s ≡ getD sources i 0 → t ≡ getD targets i 0 → t < length marks
-          → Marks (Waits (Wired i sources targets) n place) n marks
-          → {marks⁺ : List ℕ} → WireVisit n place s t marks marks⁺
-          → Marks (Waits (Wired (i + 1) sources targets) n place) n marks⁺
-      waits-visited marks s t e f long M (source-unplaced u) =
-          marks-more (Waits (Wired i sources targets) n place) (Waits (Wired (i + 1) sources targets) n place) n marks t long waits-more
-          (record { source = s; wire = rw (e, f) wired-here; unplaced = u })
-          (λ g w. ⊎-map (λ x. x .1 ∙ sym f) (λ x. x) (waits-last g w)) M
-      waits-visited marks s t e f long M (source-placed p) =
-          marks-same (Waits (Wired i sources targets) n place) (Waits (Wired (i + 1) sources targets) n place) n marks waits-more
-          (λ g w. ⊎-elim (λ x. placed g w (x .0)) (λ x. x) (waits-last g w)) M
-        where
-          placed : (g : ℕ) (w : Waits (Wired (i + 1) sources targets) n place g) → w .source ≡ getD sources i 0 → Waits (Wired i sources targets) n place g
-          placed g w x =
-              let same : getD place (w .source) 0 ≡ getD place s 0 = ap (λ (y : ℕ). getD place y 0) (x ∙ sym e) in
-              let u = w .unplaced in
-              absurd (omega arith)
 
     -- The marks of the pairs that a wire joins, with one wire more.
     module _ (s t : ℕ) (source : s ≡ getD sources i 0) (target : t ≡ getD targets i 0) where

@@ -1,5 +1,6 @@
 // The network of a block: refusal 8 (a gate reaches itself), refusal 9 (a gate is at fault with its wires), and an order of the gates along the wires.
 // Every function here is public only for the crates above. `sources` and `targets` hold the gates that each of the `m` wires joins; wire delays play no part.
+pub mod chain;
 mod ends;
 mod loops;
 pub mod marking;

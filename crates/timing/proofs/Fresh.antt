@@ -2,25 +2,18 @@
 -- Assumes nothing.
 use mathlib.Core.Path.{_≡_}
 use mathlib.Core.List.{List}
-use Prim.Native.Nat.{ℕ, _<_}
+use Prim.Native.Nat.{ℕ}
 use native.Mathlib.Omega.{arith}
 use lib.ListN.{length}
 use Rattle.model.specs.Limits.{max-gates, max-wires}
 use Rattle.model.specs.InTime.{no-increase}
-use Rattle.model.proofs.Slack.{zeros}
-use Rattle.timing.specs.Chain.{Chainable, Chained}
+use Rattle.network.specs.Chain.{Chainable, Chained}
+use Rattle.network.proofs.Chains.{zeros-chainable}
 use Rattle.timing.specs.Times.{Timeable, Ready}
 
 module _ (n m : ℕ) (order sources targets wire-delays gate-delays : List ℕ) (base : ℕ) (times : List ℕ) (able : Timeable n m order sources targets wire-delays gate-delays base times) where
   pub fresh-chains : Chainable targets m (no-increase max-gates) (no-increase max-wires)
-  fresh-chains =
-      record {
-        count = able .lent .wires;
-        all-ends = able .lent .targets-long;
-        room = able .lent .wires;
-        to-gates = λ (i : ℕ) (h : i < m). omega (arith, able .lent .target-is-gate i h, able .lent .gates);
-        begun = zeros max-gates;
-      }
+  fresh-chains = zeros-chainable targets (able .lent .gates) (able .lent .wires) (able .lent .targets-long) (able .lent .target-is-gate)
 
   pub once-chained : (heads links : List ℕ)
       → length heads ≡ max-gates

@@ -1,4 +1,3 @@
-pub mod Chain
 pub mod Times
 pub mod Slacks
 pub mod Start

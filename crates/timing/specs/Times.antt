@@ -9,7 +9,7 @@ use Rattle.model.specs.Slack.{source-by}
 use Rattle.model.specs.Arrays.{wires-in}
 use Rattle.network.specs.Wires.{Lent, Wired}
 use Rattle.network.specs.Order.{Order}
-use Rattle.timing.specs.Chain.{Chained}
+use Rattle.network.specs.Chain.{Chained}
 
 -- the longest delay of a gate, slowed as far as its steps go
 abbrev pub most-delay : ℕ

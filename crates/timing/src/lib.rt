@@ -1,5 +1,4 @@
 // Longest paths through a network of gates, and the slacks they leave, on lent arrays.
-mod chain;
 mod latest;
 mod number;
 pub mod slack;

@@ -1,6 +1,6 @@
--- The order, round by round: what a visit and a round keep, that there is room, that a full order is an order, and that a round which places no gate shows a loop.
+-- The order, gate by gate: one gate more is placed, there is room for it, a full order is an order, and where gates are left that all wait there is a loop.
 -- Assumes nothing.
-use mathlib.Core.Path.{_≡_, refl, sym, _∙_, ap, subst}
+use mathlib.Core.Path.{_≡_, sym, _∙_, ap, subst}
 use mathlib.Core.Logic.{_≢_, _⊎_, inl, inr, ⊎-elim}
 use mathlib.Core.List.{List}
 use Prim.Native.Nat.{ℕ, zero, suc, _+_, _≤_, _<_}
@@ -9,20 +9,16 @@ use native.Mathlib.Omega.{arith}
 use native.Mathlib.Decide.{ℕ-discrete, decLt, decLe}
 use lib.ListN.{length, getD, set}
 use lib.Seq.{getD-set-same, getD-set-other}
-use Rattle.network.specs.Marks.{Marks}
-use Rattle.network.specs.Order.{Order, Placed, Numbered, Waits, Visit, placed-before, waits, placed-now, SameBeyond, Advanced}
+use Rattle.network.specs.Order.{Order, Placed}
 use Rattle.network.proofs.Reach.{Reach}
 use Rattle.network.proofs.Loop.{loop-in}
 use Rattle.network.proofs.Pigeonhole.{pigeonhole, room-left}
 
--- The state of a round that began with `count₀` gates placed as `place₀` and `order₀` say, once the gates below g are visited.
-pub record Round (E : ℕ → ℕ → Type 0) (n : ℕ) (waiting place₀ order₀ : List ℕ) (count₀ g : ℕ) (place order : List ℕ) (count : ℕ) : Type 0 where
-  pub placed : Placed E n place order count
-  pub grown : count₀ ≤ count
-  pub front : (h : ℕ) → h < n → getD place₀ h 0 < n → getD place h 0 < count₀
-  pub wait : (h : ℕ) → h < g → n ≤ getD place h 0 → getD waiting h 0 ≢ 0
-  pub same : count ≡ count₀ → place ≡ place₀
-  pub beyond : SameBeyond n order₀ order
+-- A wire into gate g comes from a gate that is not placed.
+pub record Waits (E : ℕ → ℕ → Type 0) (n : ℕ) (place : List ℕ) (g : ℕ) : Type 0 where
+  pub source : ℕ
+  pub wire : E source g
+  pub unplaced : n ≤ getD place source 0
 
 module _ (E : ℕ → ℕ → Type 0) (n : ℕ) (joins-gates : (a b : ℕ) → E a b → (a < n) × (b < n)) where
   pub none-placed : (place order : List ℕ) → ((g : ℕ) → g < n → n ≤ getD place g 0) → Placed E n place order 0
@@ -122,91 +118,6 @@ module _ (E : ℕ → ℕ → Type 0) (n : ℕ) (joins-gates : (a b : ℕ) → E
             forward = λ a b e. forward⁺ a b e (ℕ-discrete b g);
           }
 
-  -- What a visit and a round keep, where the marks tell which gates waited when the round began.
-  module _ (waiting place₀ order₀ : List ℕ) (count₀ : ℕ) (M : Marks (Waits E n place₀) n waiting) where
-    pub round-begins : Placed E n place₀ order₀ count₀ → Round E n waiting place₀ order₀ count₀ 0 place₀ order₀ count₀
-    round-begins P =
-        record {
-          placed = P;
-          grown = omega arith;
-          front = P .has-place;
-          wait = λ h l. absurd (not-suc-le-zero l);
-          same = λ e. refl;
-          beyond = λ k h. refl;
-        }
-
-    module _ (g : ℕ) (gate : g < n) (place order : List ℕ) (count : ℕ) (R : Round E n waiting place₀ order₀ count₀ g place order count) where
-      -- a gate that is passed over is placed or waits
-      passed : (getD place g 0 < n) ⊎ (getD waiting g 0 ≢ 0) → Round E n waiting place₀ order₀ count₀ (g + 1) place order count
-      passed why =
-          record {
-            placed = R .placed;
-            grown = R .grown;
-            front = R .front;
-            wait = λ h l. wait⁺ h l why (ℕ-discrete h g);
-            same = R .same;
-            beyond = R .beyond;
-          }
-        where
-          wait⁺ : (h : ℕ) → h < g + 1 → (getD place g 0 < n) ⊎ (getD waiting g 0 ≢ 0) → Dec (h ≡ g) → n ≤ getD place h 0 → getD waiting h 0 ≢ 0
-          wait⁺ h l (inl p) (yes e) u = let same : getD place h 0 ≡ getD place g 0 = ap (λ (x : ℕ). getD place x 0) e in absurd (omega arith)
-          wait⁺ h l (inr w) (yes e) u = λ z. w (ap (λ (x : ℕ). getD waiting x 0) (sym e) ∙ z)
-          wait⁺ h l (inl p) (no d) u = R .wait h (omega arith) u
-          wait⁺ h l (inr w) (no d) u = R .wait h (omega arith) u
-
-      module _ (unplaced : n ≤ getD place g 0) (free : getD waiting g 0 ≡ 0) (long : g < length place) (fits : n ≤ length order) where
-        preceded : (a : ℕ) → E a g → Dec (n ≤ getD place₀ a 0) → getD place a 0 < count
-        preceded a e (yes u) = absurd (M .whole g gate (record { source = a; wire = e; unplaced = u }) free)
-        preceded a e (no d) =
-            let l = R .front a (joins-gates a g e .0) (omega arith) in
-            let k = R .grown in
-            omega arith
-
-        wait-now : (h : ℕ) → h < g + 1 → Dec (h ≡ g) → n ≤ getD (set place g count) h 0 → getD waiting h 0 ≢ 0
-        wait-now h l (yes e) u =
-            let r = room place order count (R .placed) g gate unplaced in
-            let p : getD (set place g count) h 0 ≡ count = ap (λ (x : ℕ). getD (set place g count) x 0) e ∙ getD-set-same place g count 0 long in
-            absurd (omega arith)
-        wait-now h l (no d) u = let p = getD-set-other place g h count 0 d in R .wait h (omega arith) (omega arith)
-
-        front-now : (h : ℕ) → h < n → getD place₀ h 0 < n → getD (set place g count) h 0 < count₀
-        front-now h b l =
-            let f = R .front h b l in
-            let w = R .placed .within in
-            let k = R .grown in
-            let d : h ≢ g = λ e. (let same : getD place h 0 ≡ getD place g 0 = ap (λ (x : ℕ). getD place x 0) e in omega arith) in
-            let p = getD-set-other place g h count 0 d in
-            omega arith
-
-        placed-in-round : Round E n waiting place₀ order₀ count₀ (g + 1) (set place g count) (set order count g) (count + 1)
-        placed-in-round =
-            let r = room place order count (R .placed) g gate unplaced in
-            record {
-              placed = placed-next place order count (R .placed) g gate unplaced long (omega arith) (λ a e. preceded a e (decLe n (getD place₀ a 0)));
-              grown = let k = R .grown in omega arith;
-              front = front-now;
-              wait = λ h l. wait-now h l (ℕ-discrete h g);
-              same = λ e. let k = R .grown in absurd (omega arith);
-              beyond = λ k h. getD-set-other order count k g 0 (λ e. omega arith) ∙ R .beyond k h;
-            }
-
-    pub visit-round : (g : ℕ) → g < n → (place order : List ℕ) (count : ℕ) → g < length place → n ≤ length order
-        → Round E n waiting place₀ order₀ count₀ g place order count
-        → {place⁺ order⁺ : List ℕ} {count⁺ : ℕ} → Visit n g waiting place order count place⁺ order⁺ count⁺
-        → Round E n waiting place₀ order₀ count₀ (g + 1) place⁺ order⁺ count⁺
-    visit-round g gate place order count long fits R (placed-before l) = passed g gate place order count R (inl l)
-    visit-round g gate place order count long fits R (waits w) = passed g gate place order count R (inr w)
-    visit-round g gate place order count long fits R (placed-now u z) = placed-in-round g gate place order count R u z long fits
-
-    pub round-ends : (place order : List ℕ) (count : ℕ) → Round E n waiting place₀ order₀ count₀ n place order count → Advanced E n order₀ count₀ place order count
-    round-ends place order count R =
-        record {
-          placed = R .placed;
-          grown = R .grown;
-          stuck = λ e g h u. rw (R .same e) (M .right g h (R .wait g h u));
-          beyond = R .beyond;
-        }
-
   -- Every gate has a place once there are n.
   pub whole-order : (place order : List ℕ) → Placed E n place order n → Order E n order
   whole-order place order P =
@@ -272,28 +183,3 @@ module _ (E : ℕ → ℕ → Type 0) (n : ℕ) (joins-gates : (a b : ℕ) → E
         fed = λ g s. let w = stuck g (s .0) (s .1) in (w .source, (joins-gates (w .source) g (w .wire) .0, w .unplaced), w .wire);
       })
       (u .0) (u .1)
-
--- What holds of `place` and `order` whatever the wires.
-pub placed-numbered : {E : ℕ → ℕ → Type 0} {n : ℕ} {place order : List ℕ} {count : ℕ} → Placed E n place order count → Numbered n place order count
-placed-numbered P =
-    record {
-      within = P .within;
-      names-gate = P .names-gate;
-      place-of = P .place-of;
-      has-place = P .has-place;
-      stands-there = P .stands-there;
-      forward = λ a b e. absurd e;
-    }
-
-module _ (n : ℕ) (place order : List ℕ) (count : ℕ) (N : Numbered n place order count) where
-  pub room-numbered : (g : ℕ) → g < n → n ≤ getD place g 0 → count < n
-  room-numbered = room (λ (a b : ℕ). ⊥) n (λ a b e. absurd e) place order count N
-
-  pub visit-numbered : {waiting : List ℕ} (g : ℕ) → g < n → g < length place → n ≤ length order
-      → {place⁺ order⁺ : List ℕ} {count⁺ : ℕ} → Visit n g waiting place order count place⁺ order⁺ count⁺
-      → Numbered n place⁺ order⁺ count⁺
-  visit-numbered g gate long fits (placed-before l) = N
-  visit-numbered g gate long fits (waits w) = N
-  visit-numbered g gate long fits (placed-now u z) =
-      let r = room-numbered g gate u in
-      placed-next (λ (a b : ℕ). ⊥) n (λ a b e. absurd e) place order count N g gate u long (omega arith) (λ a e. absurd e)
