@@ -1,11 +1,6 @@
-// Heads of a tree of parts in arrays, ticks handed out by them, raising, the curve, and the increases after so many ticks.
-pub mod below;
+// The raised start, and ticks spent from there on: the increases after so many ticks, and the curve of the runs.
 pub mod curve;
-pub mod gate;
-pub mod handout;
-pub mod length;
-pub mod raise;
+mod length;
+mod raise;
 pub mod start;
-pub mod store;
-pub mod ticks;
-pub mod way;
+mod ticks;

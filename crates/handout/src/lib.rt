@@ -1,0 +1,2 @@
+// Ticks handed out at a node of a tree in arrays. Public for the crates above only.
+pub mod handout;
