@@ -23,7 +23,7 @@ use Rattle.planting.specs.Copy.{Plot}
 use Rattle.planting.specs.Planted.{as-tree, Planted}
 use Rattle.planting.proofs.Cutting.{cut, cut-planted}
 use Rattle.planting.proofs.Shaping.{own-gate, once, below, few}
-use Rattle.sizing.specs.Plan.{part}
+use Rattle.heads.specs.Plan.{part}
 use Rattle.sizing.specs.Raise.{delays-in}
 use Rattle.sizing.proofs.Blocks.{Held, delays-are}
 use Rattle.shaping.specs.PlantedBlock.{NodesLong, PlantedBlock}

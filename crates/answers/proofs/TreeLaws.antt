@@ -31,13 +31,13 @@ use Rattle.optimum.specs.BlockTree.{block-tree, increases, step-count, pairs-of
 use Rattle.optimum.proofs.BlockTree.{block-is-tree}
 use Rattle.optimum.proofs.Range.{block-gain}
 use Rattle.planting.specs.Copy.{max-nodes}
-use Rattle.sizing.specs.Plan.{Plan, part, heads-in, Sound, StepsLent}
-use Rattle.sizing.specs.Stored.{Stored, Room}
+use Rattle.heads.specs.Plan.{Plan, part, heads-in, Sound, StepsLent}
+use Rattle.heads.specs.Stored.{Stored, Room}
 use Rattle.sizing.specs.Raise.{root, delays-in, Measurable, Raised, Sizable}
 use Rattle.sizing.specs.Pairs.{pair, pairs-in, Curvable, NodeCurve}
 use Rattle.sizing.proofs.Blocks.{Held, as-many, heads-are, heads-sound, increases-are, pairs-are}
 use Rattle.sizing.proofs.Bounds.{gains-small, widths-small, reach-small}
-use Rattle.sizing.proofs.Locals.{gate-below}
+use Rattle.heads.proofs.Locals.{gate-below}
 use Rattle.sizing.proofs.Starting.{root-curvable}
 use Rattle.sizing.proofs.Spent.{whole-curve}
 use Rattle.shaping.proofs.Facts.{join, no-wire-twice, descending, ranges}

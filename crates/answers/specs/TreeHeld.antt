@@ -16,7 +16,7 @@ use Rattle.gains.specs.Savings.{ListSaving, most-of-gate}
 use Rattle.parts.specs.Nodes.{Nodes}
 use Rattle.optimum.specs.Tree.{Below, zeros, longest}
 use Rattle.optimum.specs.BlockTree.{block-tree, start-of, increases, pairs-of}
-use Rattle.sizing.specs.Plan.{Plan, node-count, part, parent, heads-in, Shaped}
+use Rattle.heads.specs.Plan.{Plan, node-count, part, parent, heads-in, Shaped}
 use Rattle.sizing.specs.Raise.{root, delays-in}
 use Rattle.sizing.specs.Pairs.{Spent}
 use Rattle.sizing.proofs.Blocks.{Held}

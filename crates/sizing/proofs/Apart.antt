@@ -9,10 +9,10 @@ use native.Mathlib.Omega.{arith}
 use Rattle.parts.specs.Nodes.{Nodes}
 use Rattle.optimum.specs.Tree.{count}
 use Rattle.optimum.proofs.Count.{in-series, in-parallel}
-use Rattle.sizing.specs.Plan.{node-count, part, kind, left, gate, right, parent, Shaped}
-use Rattle.sizing.specs.Stored.{Up, top, over}
-use Rattle.sizing.proofs.Trees.{by-kind, part-wire, part-series, part-parallel}
-use Rattle.sizing.proofs.Climbing.{up-within}
+use Rattle.heads.specs.Plan.{node-count, part, kind, left, gate, right, parent, Shaped}
+use Rattle.heads.specs.Stored.{Up, top, over}
+use Rattle.heads.proofs.Trees.{by-kind, part-wire, part-series, part-parallel}
+use Rattle.heads.proofs.Climbing.{up-within}
 
 -- a way up, one node longer
 up-more : (parents : List ℕ) (i j p : ℕ) → parent parents i ≡ p → i < p → Up parents i j → Up parents p j

@@ -21,7 +21,7 @@ use Rattle.optimum.specs.Increases.{sized}
 use Rattle.optimum.specs.Runs.{runs-list, joined}
 use Rattle.optimum.specs.BlockTree.{increases, step-count, pairs-of}
 use Rattle.optimum.proofs.Gates.{gate-heads}
-use Rattle.sizing.specs.Plan.{step-head, heads-in}
+use Rattle.heads.specs.Plan.{step-head, heads-in}
 use Rattle.sizing.specs.Raise.{delays-in}
 
 -- behind the end of a list there is nothing

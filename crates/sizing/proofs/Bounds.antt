@@ -15,8 +15,8 @@ use Rattle.model.specs.Gain.{drop-of}
 use Rattle.model.specs.Arrays.{step-at}
 use Rattle.optimum.specs.Head.{Head, no-head, rank}
 use Rattle.optimum.specs.Gates.{room}
-use Rattle.sizing.specs.Plan.{most-gain, step-head, heads-in, StepsLent}
-use Rattle.sizing.proofs.Stepping.{from, all-from}
+use Rattle.heads.specs.Plan.{most-gain, step-head, heads-in, StepsLent}
+use Rattle.heads.proofs.Stepping.{from, all-from}
 
 module _ (f : ℕ → Step) where
   drop-at-most : (D m j k : ℕ) → ((i : ℕ) → i < j + m → f i .drop ≤ D) → drop-of (from f m j) k ≤ D

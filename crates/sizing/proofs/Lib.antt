@@ -1,13 +1,3 @@
-pub mod Trees
-pub mod Written
-pub mod Locals
-pub mod Making
-pub mod Climbing
-pub mod Descent
-pub mod Stepping
-pub mod Handing
-pub mod Ways
-pub mod Calls
 pub mod Ticking
 pub mod Apart
 pub mod Lifting

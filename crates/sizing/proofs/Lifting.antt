@@ -12,15 +12,16 @@ use Rattle.optimum.specs.Tree.{parallel, count, zeros, longest}
 use Rattle.optimum.specs.Handout.{ticks, raise}
 use Rattle.optimum.specs.Increases.{read, ticks-list, raise-list}
 use Rattle.optimum.proofs.Increases.{read-same, same-read, ticks-frame, read-ticks, read-raise, read-zeros, length-raised}
-use Rattle.sizing.specs.Plan.{Plan, node-count, part, kind, left, gate, right, parent}
-use Rattle.sizing.specs.Stored.{Stored, Made, Local, Lent, put, head-below}
-use Rattle.sizing.specs.State.{State, Ready, TickedOut}
+use Rattle.heads.specs.Plan.{Plan, node-count, part, kind, left, gate, right, parent}
+use Rattle.heads.specs.Stored.{Stored, Made, Local, Lent, put, head-below}
+use Rattle.handout.specs.State.{State, Ready}
+use Rattle.sizing.specs.Ticks.{TickedOut}
 use Rattle.sizing.specs.Raise.{root, Standing, Lifted, Levelled, Raisable, Raised}
-use Rattle.sizing.proofs.Trees.{by-kind, part-wire, part-series, part-parallel}
-use Rattle.sizing.proofs.Written.{local-renewed, local-beside, lent-put}
-use Rattle.sizing.proofs.Locals.{gate-below}
-use Rattle.sizing.proofs.Making.{can-make}
-use Rattle.sizing.proofs.Handing.{placed}
+use Rattle.heads.proofs.Trees.{by-kind, part-wire, part-series, part-parallel}
+use Rattle.heads.proofs.Written.{local-renewed, local-beside, lent-put}
+use Rattle.heads.proofs.Locals.{gate-below}
+use Rattle.heads.proofs.Making.{can-make}
+use Rattle.handout.proofs.Handing.{placed}
 use Rattle.sizing.proofs.Apart.{share-none, gate-beyond}
 
 -- what holds of the nodes below i and of node i holds of those below i + 1

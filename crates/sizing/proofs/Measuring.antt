@@ -1,4 +1,4 @@
--- How long parts last, node after node: the length of a node is made from those of its children. And heads of gates without increase, gate after gate.
+-- How long parts last, node after node: the length of a node is made from those of its children.
 -- Assumes nothing.
 use mathlib.Core.Path.{_≡_, refl, _∙_}
 use mathlib.Core.Logic.{_≢_}
@@ -10,12 +10,9 @@ use lib.ListN.{length, getD, set}
 use lib.Seq.{getD-set-same, getD-set-other}
 use Rattle.parts.specs.Nodes.{Nodes}
 use Rattle.optimum.specs.Tree.{zeros, longest}
-use Rattle.optimum.specs.Head.{Head}
-use Rattle.sizing.specs.Plan.{node-count, part, kind, left, gate, right}
-use Rattle.sizing.specs.Stored.{Stored, Room, stored, head-at, put}
-use Rattle.sizing.specs.Raise.{Lengths, Measurable, Unslowed, delays-in}
-use Rattle.sizing.proofs.Trees.{part-wire, part-series, part-parallel}
-use Rattle.sizing.proofs.Written.{at-put, beside-put}
+use Rattle.heads.specs.Plan.{node-count, part, kind, left, gate, right}
+use Rattle.sizing.specs.Raise.{Lengths, Measurable, delays-in}
+use Rattle.heads.proofs.Trees.{part-wire, part-series, part-parallel}
 
 module _ {N : Nodes} {delays lengths : List ℕ} {i : ℕ} (able : Measurable N delays lengths) (known : Lengths N (delays-in delays) lengths i) (node : i < node-count N) where
   abbrev long : ℕ → ℕ
@@ -67,31 +64,4 @@ measurable-on able e =
       lengths-long = omega (arith, able .lengths-long);
       gate-in = able .gate-in;
       short = able .short;
-    }
-
--- the heads of one gate more
-pub unslowed-more : {heads : ℕ → ℕ → Head} {x : List ℕ} {G : Stored} {g : ℕ} → Unslowed heads g x G → g < length x → Room G g
-    → {at : ℕ} {a : Head} {G′ : Stored} → at ≡ g → a ≡ heads g 0 → G′ ≡ put G at a → Unslowed heads (g + 1) (set x at 0) G′
-unslowed-more {heads} {x} {G} {g} before l room {at} {a} {G′} t e f =
-    record {
-      no-increase = λ k b. rw t (at-gate k b (ℕ-discrete k g));
-      right = λ k b. rw (f, t, e) (at-head k b (ℕ-discrete k g));
-    }
-  where
-    at-gate : (k : ℕ) → k < g + 1 → Dec (k ≡ g) → getD (set x g 0) k 0 ≡ 0
-    at-gate k b (yes s) = rw s (getD-set-same x g 0 0 l)
-    at-gate k b (no d) = getD-set-other x g k 0 0 d ∙ before .no-increase k (omega arith)
-
-    at-head : (k : ℕ) → k < g + 1 → Dec (k ≡ g) → head-at (put G g (heads g 0)) k ≡ heads k 0
-    at-head k b (yes s) = rw s (at-put G g (heads g 0) room)
-    at-head k b (no d) = beside-put G g k (heads g 0) d ∙ before .right k (omega arith)
-
--- arrays of the same lengths have the same places
-pub room-same : (a b c a′ b′ c′ : List ℕ) (k : ℕ) → length a′ ≡ length a → length b′ ≡ length b → length c′ ≡ length c → Room (stored a b c) k
-    → Room (stored a′ b′ c′) k
-room-same a b c a′ b′ c′ k ea eb ec room =
-    record {
-      in-widths = omega (arith, room .in-widths);
-      in-gains = omega (arith, room .in-gains);
-      in-ranks = omega (arith, room .in-ranks);
     }

@@ -15,11 +15,12 @@ use Rattle.optimum.specs.Head.{Head}
 use Rattle.optimum.specs.Handout.{head}
 use Rattle.optimum.specs.Increases.{read}
 use Rattle.optimum.specs.Runs.{joined}
-use Rattle.sizing.specs.Plan.{Plan, part, parent}
-use Rattle.sizing.specs.Stored.{head-at}
-use Rattle.sizing.specs.State.{State, Ready, Fitting, GivenOut, run-of}
+use Rattle.heads.specs.Plan.{Plan, part, parent}
+use Rattle.heads.specs.Stored.{head-at}
+use Rattle.handout.specs.State.{State, Ready, Fitting, GivenOut}
+use Rattle.sizing.specs.Ticks.{run-of}
 use Rattle.sizing.specs.Pairs.{pair, pairs-in, extend, next-run, spent-runs, spent-list, Noted, Curvable, Spent}
-use Rattle.sizing.proofs.Handing.{node-head}
+use Rattle.handout.proofs.Handing.{node-head}
 use Rattle.sizing.proofs.Ticking.{run-pos}
 use Rattle.sizing.proofs.Joining.{joined-more}
 use Rattle.sizing.proofs.Spent.{width-bounded}

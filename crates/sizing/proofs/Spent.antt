@@ -25,7 +25,7 @@ use Rattle.optimum.proofs.Loop.{ticks-list-add, give-list-is-ticks, ticks-list-
 use Rattle.optimum.proofs.Gates.{gate-heads, gate-left, gate-steps}
 use Rattle.optimum.proofs.Runs.{Steps, run-ends-step, no-steps, joined-counts}
 use Rattle.optimum.proofs.Curve.{placed, few-steps}
-use Rattle.sizing.specs.Plan.{Plan, part}
+use Rattle.heads.specs.Plan.{Plan, part}
 use Rattle.sizing.specs.Pairs.{pair, next-run, spent-runs, spent-list, NodeCurve, Spent}
 use Rattle.sizing.proofs.Ticking.{run-none, run-some}
 

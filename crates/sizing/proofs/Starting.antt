@@ -9,12 +9,13 @@ use Rattle.model.specs.Limits.{max-steps, max-width}
 use Rattle.optimum.specs.Tree.{St}
 use Rattle.optimum.specs.Head.{Head}
 use Rattle.optimum.specs.Handout.{head}
-use Rattle.sizing.specs.Plan.{Plan, most-gates, node-count, part, kind, gate, parent}
-use Rattle.sizing.specs.Stored.{Stored, Room}
-use Rattle.sizing.specs.State.{State, Ready}
-use Rattle.sizing.specs.Raise.{root, Raisable, Raised, Unslowed, Sizable}
+use Rattle.heads.specs.Plan.{Plan, most-gates, node-count, part, kind, gate, parent}
+use Rattle.heads.specs.Stored.{Stored, Room}
+use Rattle.handout.specs.State.{State, Ready}
+use Rattle.sizing.specs.Raise.{root, Raisable, Raised, Sizable}
+use Rattle.heads.specs.GateHeads.{Unslowed}
 use Rattle.sizing.specs.Pairs.{Curvable}
-use Rattle.sizing.proofs.Locals.{gate-below}
+use Rattle.heads.proofs.Locals.{gate-below}
 
 module _ {P : Plan} {S : State} (able : Sizable P S) where
   root-in : root P < node-count (P .nodes)

@@ -12,11 +12,12 @@ use Rattle.optimum.specs.Handout.{head}
 use Rattle.optimum.specs.Increases.{read, ticks-list}
 use Rattle.optimum.proofs.Handout.{some-width}
 use Rattle.optimum.proofs.Loop.{ticks-list-add, give-list-is-ticks, ticks-list-none}
-use Rattle.sizing.specs.Plan.{Plan, part, parent}
-use Rattle.sizing.specs.Stored.{Keeps, head-at}
-use Rattle.sizing.specs.State.{State, Ready, Fitting, GivenOut, TickedOut, run-of}
-use Rattle.sizing.proofs.Written.{keeps-none, keeps-on}
-use Rattle.sizing.proofs.Handing.{node-head, placed}
+use Rattle.heads.specs.Plan.{Plan, part, parent}
+use Rattle.heads.specs.Stored.{Keeps, head-at}
+use Rattle.handout.specs.State.{State, Ready, Fitting, GivenOut}
+use Rattle.sizing.specs.Ticks.{TickedOut, run-of}
+use Rattle.heads.proofs.Written.{keeps-none, keeps-on}
+use Rattle.handout.proofs.Handing.{node-head, placed}
 
 pub run-none : (ticks gain width : ℕ) → gain ≡ 0 → 0 ≡ run-of ticks gain width
 unfolding run-of

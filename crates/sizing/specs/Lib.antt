@@ -1,5 +1,3 @@
-pub mod Plan
-pub mod Stored
-pub mod State
+pub mod Ticks
 pub mod Raise
 pub mod Pairs

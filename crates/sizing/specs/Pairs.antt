@@ -13,8 +13,9 @@ use Rattle.optimum.specs.Head.{Head}
 use Rattle.optimum.specs.Handout.{head}
 use Rattle.optimum.specs.Increases.{read, give-list}
 use Rattle.optimum.specs.Runs.{runs-list, joined}
-use Rattle.sizing.specs.Plan.{Plan, most-gates, part, parent}
-use Rattle.sizing.specs.State.{State, Ready, run-of}
+use Rattle.heads.specs.Plan.{Plan, most-gates, part, parent}
+use Rattle.handout.specs.State.{State, Ready}
+use Rattle.sizing.specs.Ticks.{run-of}
 
 abbrev pub pair : ℕ → ℕ → Pair
 pair w g = record { width = w; gain = g }

@@ -4,13 +4,12 @@ use mathlib.Core.List.{List}
 use Prim.Native.Nat.{ℕ, _+_, _-_, _^_, _≤_, _<_}
 use lib.ListN.{length, getD, replicate}
 use Rattle.parts.specs.Nodes.{Nodes}
-use Rattle.optimum.specs.Head.{Head}
 use Rattle.optimum.specs.Tree.{count, zeros, longest}
 use Rattle.optimum.specs.Handout.{raise}
 use Rattle.optimum.specs.Increases.{read, raise-list}
-use Rattle.sizing.specs.Plan.{Plan, Sound, node-count, part, kind, left, gate, right, parent}
-use Rattle.sizing.specs.Stored.{Stored, Room, Local, Lent, head-at}
-use Rattle.sizing.specs.State.{State, Fresh}
+use Rattle.heads.specs.Plan.{Plan, Sound, node-count, part, kind, left, gate, right, parent}
+use Rattle.heads.specs.Stored.{Room, Local, Lent}
+use Rattle.handout.specs.State.{State, Fresh}
 
 -- the part of the last node, the whole
 abbrev pub root : Plan → ℕ
@@ -34,11 +33,6 @@ pub record Measurable (N : Nodes) (delays lengths : List ℕ) : Type 0 where
   pub lengths-long : node-count N ≤ length lengths
   pub gate-in : (k : ℕ) → k < node-count N → kind N k ≡ 1 → gate N k < length delays
   pub short : (k : ℕ) → k < node-count N → longest (delays-in delays) (part N k) (zeros (part N k)) < 2 ^ 32
-
--- n gates without increase, and their heads
-pub record Unslowed (heads : ℕ → ℕ → Head) (n : ℕ) (x : List ℕ) (G : Stored) : Type 0 where
-  pub no-increase : (g : ℕ) → g < n → getD x g 0 ≡ 0
-  pub right : (g : ℕ) → g < n → head-at G g ≡ heads g 0
 
 -- The heads of the gates and of the nodes below i are right, and every parent has a greater number than its child.
 pub record Standing (P : Plan) (S : State) (i : ℕ) : Type 0 where

@@ -1,8 +1,8 @@
 // Ticks spent at a node run by run, and the curve of the runs: neighbours of one gain are joined. With ticks for all steps it is the curve of the node.
-use crate::handout::series_give_out;
-use crate::store::GateGains;
-use crate::store::NodeGains;
 use crate::ticks::next_run;
+use handout::series_give_out;
+use heads::store::GateGains;
+use heads::store::NodeGains;
 use model::limits::GateNumbers;
 use model::limits::StepNumbers;
 use planting::NodeNumbers;
@@ -10,8 +10,8 @@ ghost use mathlib.Core.Path.{_≡_};
 ghost use Prim.Native.Nat.{ℕ, _+_, _-_, _^_, _≤_, _<_};
 ghost use lib.ListN.{length, getD};
 ghost use Rattle.lists.specs.Search.{Says};
-ghost use Rattle.sizing.specs.Plan.{plan, heads-in, StepsLent};
-ghost use Rattle.sizing.specs.State.{state};
+ghost use Rattle.heads.specs.Plan.{plan, heads-in, StepsLent};
+ghost use Rattle.handout.specs.State.{state};
 ghost use Rattle.sizing.specs.Pairs.{Noted, Curvable, Spent};
 
 // Whether the last of `count` pairs has this gain.

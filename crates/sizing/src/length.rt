@@ -1,10 +1,10 @@
 // How long the part of each node lasts with no increase.
-use crate::store::index;
+use heads::store::index;
 ghost use mathlib.Core.Path.{_≡_};
 ghost use Prim.Native.Nat.{_<_};
 ghost use lib.ListN.{length};
 ghost use Rattle.optimum.specs.Tree.{longest, zeros};
-ghost use Rattle.sizing.specs.Plan.{nodes-in, part};
+ghost use Rattle.heads.specs.Plan.{nodes-in, part};
 ghost use Rattle.sizing.specs.Raise.{Lengths, Measurable, delays-in};
 
 // How long the part of node i lasts, by the lengths of the nodes below it.

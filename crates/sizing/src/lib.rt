@@ -1,11 +1,6 @@
-// Heads of a tree of parts in arrays, ticks handed out by them, raising, the curve, and the increases after so many ticks.
-mod below;
+// The raised start, and ticks spent from there on: the increases after so many ticks, and the curve of the runs.
 pub mod curve;
-mod gate;
-mod handout;
 mod length;
 mod raise;
 pub mod start;
-mod store;
 mod ticks;
-mod way;

@@ -1,17 +1,17 @@
 // The raised start: inside out, each side of a parallel node gets the ticks that it lacks to the other.
-use crate::below::renew;
-use crate::store::GateGains;
-use crate::store::NodeGains;
-use crate::store::index;
 use crate::ticks::ticks_out;
+use heads::below::renew;
+use heads::store::GateGains;
+use heads::store::NodeGains;
+use heads::store::index;
 use model::limits::GateNumbers;
 use model::limits::StepNumbers;
 use planting::NodeNumbers;
 ghost use mathlib.Core.Path.{_≡_};
 ghost use Prim.Native.Nat.{ℕ, _-_, _≤_, _<_};
 ghost use lib.ListN.{length};
-ghost use Rattle.sizing.specs.Plan.{plan, nodes-in, heads-in, StepsLent};
-ghost use Rattle.sizing.specs.State.{state};
+ghost use Rattle.heads.specs.Plan.{plan, nodes-in, heads-in, StepsLent};
+ghost use Rattle.handout.specs.State.{state};
 ghost use Rattle.sizing.specs.Raise.{Lengths, Standing, Levelled, Raisable, Raised};
 
 // How much b is short of a.

@@ -1,14 +1,14 @@
 // The raised start, from which ticks are handed out. The array `lengths` is scratch.
-use crate::gate::unslowed_heads;
 use crate::length::part_lengths;
 use crate::raise::raise_and_fill;
-use crate::store::GateGains;
-use crate::store::NodeGains;
+use heads::gate::unslowed_heads;
+use heads::store::GateGains;
+use heads::store::NodeGains;
 use model::limits::GateNumbers;
 use model::limits::StepNumbers;
 use planting::NodeNumbers;
-ghost use Rattle.sizing.specs.Plan.{plan, nodes-in, heads-in, StepsLent};
-ghost use Rattle.sizing.specs.State.{state};
+ghost use Rattle.heads.specs.Plan.{plan, nodes-in, heads-in, StepsLent};
+ghost use Rattle.handout.specs.State.{state};
 ghost use Rattle.sizing.specs.Raise.{Measurable, Raised, Sizable, delays-in};
 
 // The increases of the raised start, and all heads with them.

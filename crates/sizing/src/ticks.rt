@@ -1,14 +1,15 @@
 // Ticks handed out at a node run by run: to raise a branch, or to find the increases after so many ticks.
-use crate::handout::series_give_out;
-use crate::store::GateGains;
-use crate::store::NodeGains;
+use handout::series_give_out;
+use heads::store::GateGains;
+use heads::store::NodeGains;
 use model::limits::GateNumbers;
 use model::limits::StepNumbers;
 use planting::NodeNumbers;
 ghost use mathlib.Core.Path.{_≡_};
 ghost use Prim.Native.Nat.{_<_};
-ghost use Rattle.sizing.specs.Plan.{plan, heads-in, parent, StepsLent};
-ghost use Rattle.sizing.specs.State.{state, run-of, Ready, TickedOut};
+ghost use Rattle.heads.specs.Plan.{plan, heads-in, parent, StepsLent};
+ghost use Rattle.handout.specs.State.{state, Ready};
+ghost use Rattle.sizing.specs.Ticks.{run-of, TickedOut};
 
 // How many ticks the next run has: as many as are left, at most the width of the head; none without a head.
 pub fn next_run(ticks: u32, gain: u64, width: u32) -> u32

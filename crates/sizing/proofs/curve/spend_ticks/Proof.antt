@@ -4,8 +4,8 @@ use mathlib.Core.Path.{_≡_, refl, _∙_}
 use Prim.Native.Nat.{_-_}
 use native.Mathlib.Omega.{arith}
 use lib.ListN.{length}
-use Rattle.sizing.specs.Plan.{plan, heads-in}
-use Rattle.sizing.specs.State.{state}
+use Rattle.heads.specs.Plan.{plan, heads-in}
+use Rattle.handout.specs.State.{state}
 use Rattle.sizing.proofs.Spending.{Spending, spending-starts, gain-small, spending-full, spending-ends, run-fits, run-left, widths-fit, spending-on}
 use Rattle.sizing.proofs.curve.spend_ticks.Statement.{statement}
 use Rattle.sizing.proofs.curve.spend_ticks.Tie as tie

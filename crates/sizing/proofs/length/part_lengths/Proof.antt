@@ -3,7 +3,7 @@ use mathlib.Core.Path.{_≡_, refl, _∙_}
 use Prim.Native.Nat.{_-_, _≤_}
 use native.Mathlib.Omega.{arith}
 use lib.ListN.{length, length-set}
-use Rattle.sizing.specs.Plan.{nodes-in}
+use Rattle.heads.specs.Plan.{nodes-in}
 use Rattle.sizing.specs.Raise.{Lengths, delays-in}
 use Rattle.sizing.proofs.Measuring.{measurable-on, lengths-more}
 use Rattle.sizing.proofs.length.part_lengths.Statement.{statement}

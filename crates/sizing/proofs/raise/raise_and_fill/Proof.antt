@@ -3,8 +3,8 @@ use mathlib.Core.Path.{_≡_, refl, _∙_}
 use Prim.Native.Nat.{ℕ, _-_, _≤_}
 use native.Mathlib.Omega.{arith}
 use lib.ListN.{length}
-use Rattle.sizing.specs.Plan.{plan, nodes-in, heads-in}
-use Rattle.sizing.specs.State.{state}
+use Rattle.heads.specs.Plan.{plan, nodes-in, heads-in}
+use Rattle.handout.specs.State.{state}
 use Rattle.sizing.specs.Raise.{Lengths, Standing, Lifted}
 use Rattle.sizing.proofs.Lifting.{made-here, stands-further, stands-at-first, lifted-none, all-raised}
 use Rattle.sizing.proofs.raise.raise_and_fill.Statement.{statement}

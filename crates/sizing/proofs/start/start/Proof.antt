@@ -1,7 +1,7 @@
 -- `sizing::start::start` meets its contract: heads of gates without increase, lengths, then raising. Assumes nothing.
 use mathlib.Core.Path.{_∙_}
 use native.Mathlib.Omega.{arith}
-use Rattle.sizing.proofs.Measuring.{room-same}
+use Rattle.heads.proofs.Unslowing.{room-same}
 use Rattle.sizing.proofs.Starting.{raisable}
 use Rattle.sizing.proofs.start.start.Statement.{statement}
 use Rattle.sizing.proofs.start.start.Tie as tie

@@ -3,8 +3,9 @@ use borrow.Author.Needs.{needs}
 use mathlib.Core.Path.{_≡_, refl, _∙_}
 use native.Mathlib.Omega.{arith}
 use lib.ListN.{length, getD}
-use Rattle.sizing.specs.Plan.{plan, heads-in}
-use Rattle.sizing.specs.State.{state, run-of}
+use Rattle.heads.specs.Plan.{plan, heads-in}
+use Rattle.handout.specs.State.{state}
+use Rattle.sizing.specs.Ticks.{run-of}
 use Rattle.sizing.proofs.Ticking.{Underway, starts, run-fits, run-left, run-done, all-out}
 use Rattle.sizing.proofs.ticks.ticks_out.Statement.{statement}
 use Rattle.sizing.proofs.ticks.ticks_out.Tie as tie

@@ -1,0 +1,18 @@
+-- The heads of gates, an entry a gate: after ticks for one gate, and without increase.
+use mathlib.Core.Path.{_≡_}
+use mathlib.Core.List.{List}
+use Prim.Native.Nat.{ℕ, _+_, _<_}
+use lib.ListN.{getD}
+use Rattle.optimum.specs.Head.{Head}
+use Rattle.optimum.specs.Increases.{add}
+use Rattle.heads.specs.Stored.{Stored, head-at, put}
+
+-- w ticks more for gate g, and its head made right again
+pub record Added (heads : ℕ → ℕ → Head) (x x′ : List ℕ) (G G′ : Stored) (g w : ℕ) : Type 0 where
+  pub increases : x′ ≡ add x g w
+  pub written : G′ ≡ put G g (heads g (getD x g 0 + w))
+
+-- n gates without increase, and their heads
+pub record Unslowed (heads : ℕ → ℕ → Head) (n : ℕ) (x : List ℕ) (G : Stored) : Type 0 where
+  pub no-increase : (g : ℕ) → g < n → getD x g 0 ≡ 0
+  pub right : (g : ℕ) → g < n → head-at G g ≡ heads g 0
