@@ -22,7 +22,7 @@ use Rattle.model.proofs.Fault.{found-is, faultless-from-0}
 use Rattle.model.proofs.Reading.{read-gates-none, read-gates-more, read-gates-refused}
 use Rattle.model.proofs.Stored as StoredGates
 use Rattle.blockfile.specs.declared.read.FieldRead.the-variants.{Read, Refused}
-use Rattle.blockfile.specs.Behind.{offset-behind}
+use Rattle.fields.specs.Behind.{offset-behind}
 use Rattle.blockfile.specs.Held.{GateArrays, gate-held, gates-held, GateRoom, GateStored, GatesKept}
 use Rattle.blockfile.specs.Reads.{GateRead, reading-map, refusing}
 use Rattle.blockfile.proofs.Stores.{kept-all}

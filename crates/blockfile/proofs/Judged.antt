@@ -15,7 +15,7 @@ use Rattle.model.specs.Answer.{refusal, refusal-answer}
 use Rattle.model.proofs.Fields.{whole}
 use Rattle.model.proofs.Fault.{faultless-from-0, fault-at-most-6, read-found, read-refused}
 use Rattle.blockfile.specs.declared.read.FieldRead.the-variants.{Read, Refused}
-use Rattle.blockfile.specs.Behind.{offset-behind}
+use Rattle.fields.specs.Behind.{offset-behind}
 use Rattle.blockfile.specs.Reads.{refusing}
 
 -- what was read was not refused

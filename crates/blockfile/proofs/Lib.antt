@@ -1,6 +1,3 @@
-pub mod Steps
-pub mod Pairs
-pub mod Shapes
 pub mod Stores
 pub mod Judged
 pub mod Gates

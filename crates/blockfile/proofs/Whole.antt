@@ -17,7 +17,7 @@ use Rattle.model.specs.File.{block, says, in-range, found, read-field, read-gat
 use Rattle.model.specs.Activity.{activity}
 use Rattle.model.specs.Answer.{refusal, refusal-answer}
 use Rattle.model.proofs.Reading.{read-gates-inside, decode-block-refused, decode-gates-refused, decode-wires-refused, decode-found}
-use Rattle.blockfile.specs.Behind.{offset-behind}
+use Rattle.fields.specs.Behind.{offset-behind}
 use Rattle.blockfile.specs.Reads.{refusing, reading-map}
 use Rattle.blockfile.proofs.Judged.{Judged, judged-refused, judged-fits, judged-found, judged-inside, judged-ranges}
 use Rattle.blockfile.proofs.Gates.{FoundBefore, map-found, map-refused}

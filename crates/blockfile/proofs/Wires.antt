@@ -20,11 +20,11 @@ use Rattle.model.proofs.Fault.{found-inside}
 use Rattle.model.proofs.Reading as Reading
 use Rattle.model.proofs.Stored.{build-more}
 use Rattle.blockfile.specs.declared.read.FieldRead.the-variants.{Read, Refused}
-use Rattle.blockfile.specs.Behind.{offset-behind}
+use Rattle.fields.specs.Behind.{offset-behind}
 use Rattle.blockfile.specs.Held.{WireArrays, wire-arrays, wire-held, wires-held, WireRoom}
 use Rattle.blockfile.specs.Reads.{WireRead, refusing}
-use Rattle.blockfile.specs.Seen.{between, Marks}
-use Rattle.blockfile.proofs.Pairs.{ends-below}
+use Rattle.fields.specs.Seen.{between, Marks}
+use Rattle.fields.proofs.Pairs.{ends-below}
 use Rattle.blockfile.proofs.Stores.{kept-all, kept-set}
 use Rattle.blockfile.proofs.Judged.{Judged, read-not-refused, judged-refused, judged-fits, judged-found, judged-ranges}
 

@@ -1,8 +1,3 @@
-// Reading a block file into numbers: the fields, their faults (refusals 1 to 7), and the whole file into lent arrays.
-mod fault;
-pub mod field;
-mod limits;
+// A whole block file read into lent arrays: refusals 1 to 7.
 pub mod read;
-pub mod reader;
-mod seen;
 mod store;

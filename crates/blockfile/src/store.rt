@@ -6,9 +6,9 @@ ghost use lib.ListN.{length};
 ghost use Rattle.model.specs.Limits.{max-gates, max-steps};
 ghost use Rattle.model.specs.File as File;
 ghost use Rattle.blockfile.specs.Held.{GateRoom, StepsStored, GateStored, gate-arrays};
-use crate::field::number_at;
-use crate::limits::GATE_BYTES;
-use crate::limits::STEP_BYTES;
+use fields::field::number_at;
+use fields::limits::GATE_BYTES;
+use fields::limits::STEP_BYTES;
 use model::activity::activity_of;
 use model::limits::MAX_STEPS;
 

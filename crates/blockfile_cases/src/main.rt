@@ -2,9 +2,9 @@
 // Standard input: the length of a block file (2 bytes), its bytes, then cases of 8 bytes: how many bytes are read (2), and two changes, each a place (2) and the byte to put there (1).
 ghost use mathlib.Core.Path.{_≡_};
 ghost use lib.ListN.{length};
-use blockfile::field::number_at;
 use blockfile::read::BlockRead;
 use blockfile::read::read_block;
+use fields::field::number_at;
 use libc::STDOUT_FILENO;
 use model::Refusal;
 

@@ -3,7 +3,7 @@
 ghost use mathlib.Core.Path.{_≡_};
 ghost use Prim.Native.Nat.{_+_, _≤_};
 ghost use lib.ListN.{length};
-use blockfile::field::number_at;
+use fields::field::number_at;
 use libc::STDOUT_FILENO;
 use loading::numbers::numbers_of;
 use model::JudgeAnswer;

@@ -1,7 +1,7 @@
 // Runs the four calls on stored block files, and prints what they answer. host/CASES.md describes the input and the output.
 // Numbers and refusals come first, each printed with a blank in front; then the calls that write to lent slices, whose arrays hold a mark in every element before a call; then judging; then the records.
-use blockfile::field::number_at;
-use blockfile::field::wide;
+use fields::field::number_at;
+use fields::field::wide;
 use libc::STDOUT_FILENO;
 use loading::numbers::numbers_of;
 use model::BestAnswer;

@@ -1,4 +1,4 @@
--- `sizing::below::head_below` meets its contract: by the node's kind. Assumes nothing.
+-- `heads::below::head_below` meets its contract: by the node's kind. Assumes nothing.
 use borrow.Author.Needs.{needs}
 use native.Mathlib.Omega.{arith}
 use Rattle.heads.proofs.Making.{left-at, gate-at, right-at, wire-made, series-made, sum-made, parallel-made}

@@ -1,4 +1,4 @@
--- `sizing::below::renew` meets its contract: the head found is stored. Assumes nothing.
+-- `heads::below::renew` meets its contract: the head found is stored. Assumes nothing.
 use borrow.Author.Needs.{needs}
 use Rattle.heads.proofs.Making.{renewed}
 use Rattle.heads.proofs.below.renew.Statement.{statement}

@@ -1,4 +1,4 @@
--- `sizing::below::renew_up` meets its contract: every node but k that was right, and those renewed, are right. Assumes nothing.
+-- `heads::below::renew_up` meets its contract: every node but k that was right, and those renewed, are right. Assumes nothing.
 use borrow.Author.Needs.{needs}
 use mathlib.Core.Path.{_≡_, refl}
 use Prim.Native.Nat.{_-_}

@@ -1,4 +1,4 @@
--- `sizing::gate::gate_give_out` meets its contract: the increase and the head are stored. Assumes nothing.
+-- `heads::gate::gate_give_out` meets its contract: the increase and the head are stored. Assumes nothing.
 use borrow.Author.Needs.{needs}
 use native.Mathlib.Omega.{arith}
 use Rattle.heads.proofs.Stepping.{gate-added}

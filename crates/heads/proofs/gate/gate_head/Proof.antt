@@ -1,4 +1,4 @@
--- `sizing::gate::gate_head` meets its contract: j steps are passed, and the ticks left lie in the others. Assumes nothing.
+-- `heads::gate::gate_head` meets its contract: j steps are passed, and the ticks left lie in the others. Assumes nothing.
 use borrow.Author.Needs.{needs}
 use mathlib.Core.Path.{refl}
 use Prim.Native.Nat.{_-_}

@@ -1,4 +1,4 @@
--- `sizing::gate::tick_head` meets its contract: the greatest drop and input activity make a product that fits. Assumes nothing.
+-- `heads::gate::tick_head` meets its contract: the greatest drop and input activity make a product that fits. Assumes nothing.
 use native.Mathlib.Nat.{mul-le-mul}
 use native.Mathlib.Omega.{arith}
 use Rattle.heads.proofs.Stepping.{tick-none, tick-some}

@@ -1,4 +1,4 @@
--- `sizing::gate::unslowed_heads` meets its contract: the heads of the gates below g are those without increase. Assumes nothing.
+-- `heads::gate::unslowed_heads` meets its contract: the heads of the gates below g are those without increase. Assumes nothing.
 use borrow.Author.Needs.{needs}
 use mathlib.Core.Path.{_≡_, refl, _∙_}
 use Prim.Native.Nat.{_-_, _≤_}

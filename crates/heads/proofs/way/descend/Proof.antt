@@ -1,4 +1,4 @@
--- `sizing::way::descend` meets its contract: each next node is below the last. Assumes nothing.
+-- `heads::way::descend` meets its contract: each next node is below the last. Assumes nothing.
 use native.Mathlib.Omega.{arith}
 use Rattle.heads.specs.Plan.{nodes-in}
 use Rattle.heads.specs.Stored.{stored}

@@ -1,4 +1,4 @@
--- `sizing::way::leading` meets its contract: one case for each pair of answers of `leads`. Assumes nothing.
+-- `heads::way::leading` meets its contract: one case for each pair of answers of `leads`. Assumes nothing.
 use borrow.Author.Needs.{needs}
 use Rattle.optimum.specs.Code.{head-of}
 use Rattle.heads.proofs.Descent.{last-leads, middle-leads, last-passes, first-leads}

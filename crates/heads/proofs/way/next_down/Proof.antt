@@ -1,4 +1,4 @@
--- `sizing::way::next_down` meets its contract: the heads of a series node's items are compared. Assumes nothing.
+-- `heads::way::next_down` meets its contract: the heads of a series node's items are compared. Assumes nothing.
 use borrow.Author.Needs.{needs}
 use native.Mathlib.Omega.{arith}
 use Rattle.heads.proofs.Making.{left-at, gate-at, right-at}
