@@ -104,11 +104,11 @@ held-kept k A B i same = go (decLt i k)
     go (no n) = held-out k B i (omega arith) ∙ sym (held-out k A i (omega arith))
 
 -- a flag put to 0
-cleared-dead : (xs : List ℕ) (j : ℕ) → j < length xs → getD (set xs j 0) j 0 ≡ 1 → ⊥
+pub cleared-dead : (xs : List ℕ) (j : ℕ) → j < length xs → getD (set xs j 0) j 0 ≡ 1 → ⊥
 cleared-dead xs j h e = let f : _≡_ {A = ℕ} 0 1 = sym (getD-set-same xs j 0 0 h) ∙ e in omega arith
 
 -- a flag that is 1 after another was put to 0 was 1 before
-cleared-was : (xs : List ℕ) (j q : ℕ) → j < length xs → getD (set xs j 0) q 0 ≡ 1 → (q ≢ j) × (getD xs q 0 ≡ 1)
+pub cleared-was : (xs : List ℕ) (j q : ℕ) → j < length xs → getD (set xs j 0) q 0 ≡ 1 → (q ≢ j) × (getD xs q 0 ≡ 1)
 cleared-was xs j q h e = go (ℕ-discrete q j)
   where
     go : Dec (q ≡ j) → (q ≢ j) × (getD xs q 0 ≡ 1)

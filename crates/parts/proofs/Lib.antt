@@ -9,11 +9,14 @@ pub mod Nodes
 pub mod Search
 pub mod Reduce
 pub mod Ascending
-pub mod MarkLaws
 pub mod SoughtLaws
+pub mod TallyLaws
 pub mod Held
 pub mod TakeLaws
 pub mod GoingLaws
-pub mod SweepLaws
+pub mod SettleLaws
+pub mod TableLaws
+pub mod QueueLaws
+pub mod TurnLaws
 pub mod LayLaws
 pub mod FinishLaws

@@ -4,12 +4,12 @@ use mathlib.Core.List.{List}
 use Prim.Native.Nat.{ℕ, _+_, _<_}
 use native.Mathlib.Omega.{arith}
 use lib.ListN.{getD, set}
-use Rattle.parts.specs.Sought.{Sought, Leads}
+use Rattle.parts.specs.Sought.{Found, Leads}
 use Rattle.parts.specs.Arrays.{arrays, joined, taken-up, Went, by-joining, by-taking-up}
 
 pub went-joined :
     {k c m i j l : ℕ} {lives froms tos tops kinds lefts gates rights lives' tos' tops' kinds' lefts' gates' rights' : List ℕ}
-    → Sought (Leads lives froms tos (getD froms i 0) (getD tos j 0)) k l
+    → Found (Leads lives froms tos (getD froms i 0) (getD tos j 0)) k l
     → l ≡ k
     → lives' ≡ set lives j 0
     → tos' ≡ set tos i (getD tos j 0)
@@ -21,12 +21,12 @@ pub went-joined :
     → Went k c m i j (arrays lives froms tos tops kinds lefts gates rights) (arrays lives' froms tos' tops' kinds' lefts' gates' rights') (c + 1)
 unfolding joined
 went-joined {froms = froms} s e a b d f g h n =
-    by-joining (λ q v. s .none-below q (omega arith))
+    by-joining (s .none e)
     (λ z. arrays (a z) froms (b z) (d z) (f z) (g z) (h z) (n z)) refl
 
 pub went-taken-up :
     {k c m i j l : ℕ} {lives froms tos tops kinds lefts gates rights lives' tops' kinds₁ lefts₁ gates₁ rights₁ kinds' lefts' gates' rights' : List ℕ}
-    → Sought (Leads lives froms tos (getD froms i 0) (getD tos j 0)) k l
+    → Found (Leads lives froms tos (getD froms i 0) (getD tos j 0)) k l
     → (l ≡ k → ⊥)
     → lives' ≡ set (set lives i 0) j 0
     → tops' ≡ set tops l (c + 1)

@@ -1,14 +1,16 @@
--- What holds of the arrays while gates go, and what a sweep of the reduction over the gates does.
+-- What holds of the arrays while gates go, and what a turn of the queue does.
 use mathlib.Core.Path.{_≡_}
-use mathlib.Core.Logic.{_≢_}
-use Prim.Native.Nat.{ℕ, _+_, _≤_, _<_}
+use mathlib.Core.Bool.{cond}
+use Prim.Native.Nat.{ℕ, _+_, _*_, _≤_, _<_}
 use mathlib.Core.List.{List}
+use lib.Dec.{eqb}
 use lib.ListN.{getD}
+use Rattle.model.specs.Limits.{max-gates}
 use Rattle.model.specs.Block.{Block, gate-count, Joined}
 use Rattle.parts.specs.Slots.{Finished, live-count}
 use Rattle.parts.specs.Invariant.{Reducing}
 use Rattle.parts.specs.Network.{Network}
-use Rattle.parts.specs.Marks.{Names}
+use Rattle.parts.specs.Tallies.{share, TalliedBy, settled, kept-share}
 use Rattle.parts.specs.Sought.{CanGo}
 use Rattle.parts.specs.Arrays.{Arrays, held, Formed, Room, Chosen, Went}
 
@@ -31,22 +33,55 @@ pub record Ready (n k c : ℕ) (A : Arrays) : Type 0 where
   pub to-below : (i : ℕ) → i < k → getD (A .tos) i 0 < n
   pub budget : c + live-count k (held k A) ≤ k + k
 
--- From gate m on, the marks that name a slot are right.
-pub record MarksFrom (n k m : ℕ) (A : Arrays) (ins outs : List ℕ) : Type 0 where
-  pub ins-named : (g : ℕ) → m ≤ g → g < n → Names (A .lives) (A .tos) k ins g
-  pub outs-named : (g : ℕ) → m ≤ g → g < n → Names (A .lives) (A .froms) k outs g
+-- the tallies of the n gates are right
+pub record Tallied (n k : ℕ) (A : Arrays) (ins outs : List ℕ) : Type 0 where
+  pub ins-right : TalliedBy (A .lives) (A .tos) n k ins
+  pub outs-right : TalliedBy (A .lives) (A .froms) n k outs
 
--- Gate m has gone, where it is neither a nor b and the marks let it, and from the next gate on the marks that name a slot are right again; else nothing changes.
-pub data Visited (n k a b c m : ℕ) (ins outs : List ℕ) (A B : Arrays) (ins′ : List ℕ) (r : ℕ) : Type 0 where
-  stays : ¬ (CanGo ins outs a b m) → B ≡ A → ins′ ≡ ins → r ≡ c → Visited n k a b c m ins outs A B ins′ r
-  goes : (i j : ℕ) → Chosen k A m i j → Went k c m i j A B r → MarksFrom n k (m + 1) B ins′ outs → Visited n k a b c m ins outs A B ins′ r
+-- the place of the gates a and b in the table of slots
+abbrev pub pair : ℕ → ℕ → ℕ
+pair a b = a * max-gates + b
 
--- Gates but a and b have gone, from the arrays A with c nodes to the arrays B with r nodes. Where none has, none can.
-pub record Swept (n k a b c : ℕ) (A B : Arrays) (r : ℕ) : Type 0 where
-  pub grows : c ≤ r
-  pub ready : Ready n k r B
-  pub stands : (N : Block) → Network N → Going N n k c A → Going N n k r B
-  pub rests : r ≡ c → (m i j : ℕ) → m < n → m ≢ a → m ≢ b → Chosen k B m i j → ⊥
+-- every live slot stands in the table, at its two gates
+pub record Listed (k : ℕ) (lives froms tos table : List ℕ) : Type 0 where
+  pub listed : (q : ℕ) → q < k → getD lives q 0 ≡ 1 → getD table (pair (getD froms q 0) (getD tos q 0)) 0 ≡ q
+
+-- Every gate that can go, but a and b, stands in the queue from `head` on, at its place.
+pub record Queued (n a b : ℕ) (ins outs queue places : List ℕ) (head tail : ℕ) : Type 0 where
+  pub gates : (q : ℕ) → q < tail → getD queue q 0 < n
+  pub waits : (g : ℕ) → g < n → CanGo ins outs a b g → (head ≤ getD places g 0) × (getD places g 0 < tail) × (getD queue (getD places g 0) 0 ≡ g)
+
+-- the n gates in the queue, in their order
+abbrev pub LinedUp : ℕ → List ℕ → List ℕ → Type 0
+LinedUp n queue places = (g : ℕ) → g < n → (getD queue g 0 ≡ g) × (getD places g 0 ≡ g)
+
+-- gate m, which the queue has at `head`, has its place there, and can go
+pub record Waits (ins outs places : List ℕ) (a b head m : ℕ) : Type 0 where
+  pub place : getD places m 0 ≡ head
+  pub can : CanGo ins outs a b m
+
+-- the queue's tail once two gates have joined it, where a gate has gone
+abbrev pub tail-after : ℕ → ℕ → ℕ → ℕ
+tail-after c r tail = cond (eqb r c) tail (tail + 2)
+
+-- Gate m has gone, between u and v; tallies and table have followed.
+pub record Removed (k c m i j u v : ℕ) (A B : Arrays) (ins outs ins′ outs′ table′ : List ℕ) (r : ℕ) : Type 0 where
+  pub went : Went k c m i j A B r
+  pub ins-settled : ins′ ≡ settled m v (share j) (kept-share c r i) ins
+  pub outs-settled : outs′ ≡ settled m u (share i) (kept-share c r i) outs
+  pub listed : Listed k (B .lives) (B .froms) (B .tos) table′
+
+-- a gate has gone, from the arrays A with c nodes to the arrays B with r nodes; or none
+pub data Turned (k c : ℕ) (A B : Arrays) (r : ℕ) : Type 0 where
+  stays : B ≡ A → r ≡ c → Turned k c A B r
+  goes : (m i j : ℕ) → Chosen k A m i j → Went k c m i j A B r → Turned k c A B r
+
+-- The queue's gate at `head` has had its turn: tallies, table and queue are right again.
+pub record Visited (n k a b c head tail : ℕ) (A B : Arrays) (ins outs table queue places : List ℕ) (r : ℕ) : Type 0 where
+  pub turned : Turned k c A B r
+  pub tallied : Tallied n k B ins outs
+  pub listed : Listed k (B .lives) (B .froms) (B .tos) table
+  pub queued : Queued n a b ins outs queue places (head + 1) (tail-after c r tail)
 
 -- The reduction's end, from the arrays A to the arrays B with r nodes: of whatever network A was the beginning, B is a moment at which no gate but a and b can go.
 pub record Ended (n k a b : ℕ) (A B : Arrays) (r : ℕ) : Type 0 where

@@ -5,7 +5,7 @@ pub mod Network
 pub mod Nodes
 pub mod Reduce
 pub mod Ascending
-pub mod Marks
+pub mod Tallies
 pub mod Sought
 pub mod Arrays
 pub mod Going

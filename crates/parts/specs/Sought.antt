@@ -2,21 +2,27 @@
 use mathlib.Core.Path.{_≡_}
 use mathlib.Core.Logic.{_≢_}
 use mathlib.Core.List.{List}
-use Prim.Native.Nat.{ℕ, _≤_, _<_}
+use Prim.Native.Nat.{ℕ, _+_, _≤_, _<_}
 use lib.ListN.{getD}
+use Rattle.model.specs.Limits.{max-wires}
 
--- r is the least number below n with the property, or n where there is none
-pub record Sought (P : ℕ → Type 0) (n r : ℕ) : Type 0 where
+-- r is a number below n with the property, or n where there is none
+pub record Found (P : ℕ → Type 0) (n r : ℕ) : Type 0 where
   pub within : r ≤ n
-  pub none-below : (q : ℕ) → q < r → ¬ (P q)
   pub holds : r < n → P r
+  pub none : r ≡ n → (q : ℕ) → q < n → ¬ (P q)
 
--- By the marks, gate m can go, which is neither a nor b: one slot leads to it and one from it.
+-- a tally of one slot
+pub record One (t : ℕ) : Type 0 where
+  pub some : max-wires ≤ t
+  pub no-two : t < max-wires + max-wires
+
+-- By the tallies, gate m can go, which is neither a nor b: one slot leads to it and one from it.
 pub record CanGo (ins outs : List ℕ) (a b m : ℕ) : Type 0 where
   pub not-first : m ≢ a
   pub not-last : m ≢ b
-  pub one-in : 2 ≤ getD ins m 0
-  pub one-out : 2 ≤ getD outs m 0
+  pub one-in : One (getD ins m 0)
+  pub one-out : One (getD outs m 0)
 
 -- slot i is live and leads from a to b
 pub record Leads (lives froms tos : List ℕ) (a b i : ℕ) : Type 0 where

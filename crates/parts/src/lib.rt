@@ -1,21 +1,29 @@
 // The reduction of a block to its tree of parts, or the verdict that it is not series-parallel. Its mathematics stands in specs/ and proofs/.
-mod find;
 mod finish;
 mod lay;
-mod marks;
-mod sweeps;
+mod queue;
+mod table;
 mod take;
+mod tallies;
+mod turns;
 
 use finish::pick;
 use lay::lay;
-use sweeps::reduce;
-ghost use Prim.Native.Nat.{_+_, _^_, _≤_};
+use model::limits::GATES_SQUARED;
+use model::limits::MAX_GATES;
+use model::limits::MAX_WIRES;
+use turns::reduce;
+ghost use Prim.Native.Nat.{_+_, _≤_};
 ghost use lib.ListN.{length};
+ghost use Rattle.model.specs.Limits.{max-gates, max-wires};
 ghost use Rattle.model.specs.Block.{Block};
 ghost use Rattle.parts.specs.Network.{Network};
 ghost use Rattle.parts.specs.Arrays.{arrays, Room};
 ghost use Rattle.parts.specs.Wired.{Wired, Given};
 ghost use Rattle.parts.specs.Answered.{Answered};
+
+// Turns in the queue, at most: one for each gate and two for each wire.
+const MAX_TURNS: usize = MAX_GATES + MAX_WIRES + MAX_WIRES;
 
 // The root of the tree and the number of nodes; one gate without a wire; or not series-parallel.
 pub enum Answer {
@@ -48,13 +56,16 @@ pub fn reduce_network(
     requires { ⌜ k ≤ length (now delay) ⌝ }
     requires { ⌜ n ≤ length (now ins) ⌝ }
     requires { ⌜ n ≤ length (now outs) ⌝ }
-    requires { ⌜ n ≤ 2 ^ 32 ⌝ }
-    requires { ⌜ k + k + 2 ≤ 2 ^ 32 ⌝ }
+    requires { ⌜ n ≤ max-gates ⌝ }
+    requires { ⌜ k ≤ max-wires ⌝ }
     ensures { λ r. ⌜ ((N : Block) → Network N → Wired N n k (now (from .entry)) (now (to .entry)) (now (delay .entry)) → Answered N (arrays (now (live .exit)) (now (from .entry)) (now (target .exit)) (now (top .exit)) (now (kind .exit)) (now (left .exit)) (now (gate .exit)) (now (right .exit)) .tree) r) ⌝ }
 {
     if n == 1 {
         return Answer::Lone;
     }
+    let mut table = [0u8; GATES_SQUARED];
+    let mut queue = [0u8; MAX_TURNS];
+    let mut places = [0u32; MAX_GATES];
     lay(to, delay, live, target, top, kind, gate, k);
     let nodes = reduce(
         live,
@@ -67,6 +78,9 @@ pub fn reduce_network(
         right,
         ins,
         outs,
+        &mut table,
+        &mut queue,
+        &mut places,
         k,
         n,
         0,
