@@ -5,6 +5,7 @@ ghost use mathlib.Core.List.{List, [], map};
 ghost use Prim.Native.Nat.{_<_, _≤_};
 ghost use lib.ListN.{length};
 ghost use Rattle.model.specs.Limits.{max-gates, max-wires};
+ghost use Rattle.model.specs.Activity as Activity;
 ghost use Rattle.model.specs.Block.{Wire};
 ghost use Rattle.model.specs.Netlist.{gate-of};
 ghost use Rattle.model.specs.File.{read-gates, read-wires, read-block};
@@ -24,7 +25,9 @@ use fields::reader::offset_behind;
 use fields::seen::clear;
 use fields::seen::mark;
 use model::Refusal;
-use model::activity::activity_of;
+use model::activity::ActivityTable;
+use model::activity::activity_in;
+use model::activity::activity_table;
 use model::limits::MAX_WIRES;
 
 // A field, or several, were read up to an offset, or refused.
@@ -61,9 +64,11 @@ fn read_gate(
     counts: &mut [u32],
     step_widths: &mut [u32],
     drops: &mut [u32],
+    table: &ActivityTable,
 ) -> FieldRead
     requires { ⌜ gate < max-gates ⌝ }
     requires { ⌜ GateRoom (gate-arrays (now delays) (now activities) (now counts) (now «step_widths») (now drops)) ⌝ }
+    requires { ⌜ now table ≡ Activity.activities ⌝ }
     ensures { λ r. ⌜ GateRead (now (file .entry)) offset gate (gate-arrays (now (delays .entry)) (now (activities .entry)) (now (counts .entry)) (now («step_widths» .entry)) (now (drops .entry))) (gate-arrays (now (delays .exit)) (now (activities .exit)) (now (counts .exit)) (now («step_widths» .exit)) (now (drops .exit))) r ⌝ }
 {
     let body = due_body(file, offset);
@@ -71,7 +76,16 @@ fn read_gate(
     if fault != 0 {
         return FieldRead::Refused(refusal_of(fault, offset));
     }
-    store_gate(body, gate, delays, activities, counts, step_widths, drops);
+    store_gate(
+        body,
+        gate,
+        delays,
+        activities,
+        counts,
+        step_widths,
+        drops,
+        table,
+    );
     FieldRead::Read {
         next: offset_behind(file, offset),
     }
@@ -87,9 +101,11 @@ fn read_gates(
     counts: &mut [u32],
     step_widths: &mut [u32],
     drops: &mut [u32],
+    table: &ActivityTable,
 ) -> FieldRead
     requires { ⌜ gates ≤ max-gates ⌝ }
     requires { ⌜ GateRoom (gate-arrays (now delays) (now activities) (now counts) (now «step_widths») (now drops)) ⌝ }
+    requires { ⌜ now table ≡ Activity.activities ⌝ }
     ensures { λ r. ⌜ passing r (gates-held (gate-arrays (now (delays .exit)) (now (activities .exit)) (now (counts .exit)) (now («step_widths» .exit)) (now (drops .exit))) gates) ≡ reading-map (map gate-of) (read-gates gates (now (file .entry)) start) ⌝ }
 {
     let mut offset = start;
@@ -104,6 +120,7 @@ fn read_gates(
             counts,
             step_widths,
             drops,
+            table,
         );
         match passed {
             FieldRead::Refused(_) => {
@@ -196,8 +213,9 @@ fn read_wires(
 }
 
 // What the body of the block field says of a block with so many wires.
-fn block_said(body: &[u8], wires: usize) -> BlockRead
+fn block_said(body: &[u8], wires: usize, table: &ActivityTable) -> BlockRead
     requires { ⌜ length (now body) ≡ 8 ⌝ }
+    requires { ⌜ now table ≡ Activity.activities ⌝ }
     ensures { λ r. ⌜ r ≡ said-of (now (body .entry)) wires ⌝ }
 {
     BlockRead::Read {
@@ -205,7 +223,7 @@ fn block_said(body: &[u8], wires: usize) -> BlockRead
         wires,
         arrival: number_at(body, 2),
         deadline: number_at(body, 4),
-        activity: activity_of(number_at(body, 6)),
+        activity: activity_in(table, number_at(body, 6)),
     }
 }
 
@@ -227,6 +245,7 @@ pub fn read_block(
     requires { ⌜ pairs ≤ length (now seen) ⌝ }
     ensures { λ r. ⌜ block-passing (now (file .entry)) r (gate-arrays (now (delays .exit)) (now (activities .exit)) (now (counts .exit)) (now («step_widths» .exit)) (now (drops .exit))) (wire-arrays (now (sources .exit)) (now (targets .exit)) (now («wire_delays» .exit))) ≡ read-block (now (file .entry)) ⌝ }
 {
+    let table = activity_table();
     let body = due_body(file, 0);
     let fault = block_fault(due_field(file, 0), body);
     if fault != 0 {
@@ -242,6 +261,7 @@ pub fn read_block(
         counts,
         step_widths,
         drops,
+        &table,
     );
     match passed {
         FieldRead::Refused(refusal) => BlockRead::Refused(refusal),
@@ -249,7 +269,7 @@ pub fn read_block(
             let ended = read_wires(file, next, gates, sources, targets, wire_delays, seen);
             match ended {
                 WiresRead::Refused(refusal) => BlockRead::Refused(refusal),
-                WiresRead::Read { wires } => block_said(body, wires),
+                WiresRead::Read { wires } => block_said(body, wires, &table),
             }
         }
     }

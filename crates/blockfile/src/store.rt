@@ -4,12 +4,14 @@ ghost use mathlib.Core.Bool.{true};
 ghost use Prim.Native.Nat.{_*_, _<_, _≤_, _%_};
 ghost use lib.ListN.{length};
 ghost use Rattle.model.specs.Limits.{max-gates, max-steps};
+ghost use Rattle.model.specs.Activity as Activity;
 ghost use Rattle.model.specs.File as File;
 ghost use Rattle.blockfile.specs.Held.{GateRoom, StepsStored, GateStored, gate-arrays};
 use fields::field::number_at;
 use fields::limits::GATE_BYTES;
 use fields::limits::STEP_BYTES;
-use model::activity::activity_of;
+use model::activity::ActivityTable;
+use model::activity::activity_in;
 use model::limits::MAX_STEPS;
 
 // Stores the steps of a gate, and answers how many they are.
@@ -39,14 +41,16 @@ pub fn store_gate(
     counts: &mut [u32],
     step_widths: &mut [u32],
     drops: &mut [u32],
+    table: &ActivityTable,
 )
     requires { ⌜ File.length-fits File.gate (length (now body)) ≡ true ⌝ }
     requires { ⌜ gate < max-gates ⌝ }
     requires { ⌜ GateRoom (gate-arrays (now delays) (now activities) (now counts) (now «step_widths») (now drops)) ⌝ }
+    requires { ⌜ now table ≡ Activity.activities ⌝ }
     ensures { λ _. ⌜ GateStored (now (body .entry)) gate (gate-arrays (now (delays .entry)) (now (activities .entry)) (now (counts .entry)) (now («step_widths» .entry)) (now (drops .entry))) (gate-arrays (now (delays .exit)) (now (activities .exit)) (now (counts .exit)) (now («step_widths» .exit)) (now (drops .exit))) ⌝ }
 {
     let probability = number_at(body, 2);
     delays[gate] = number_at(body, 0);
-    activities[gate] = activity_of(probability);
+    activities[gate] = activity_in(table, probability);
     counts[gate] = store_steps(&body[GATE_BYTES..], gate, step_widths, drops);
 }

@@ -1,9 +1,12 @@
-// The activity of a net for each probability, looked up.
+// The activity of a net for each probability, looked up. The table is a constant, which each use would lay out anew: a call has it once and hands it on.
 ghost use mathlib.Core.Path.{_≡_};
-ghost use Rattle.model.specs.Activity.{activity};
+ghost use Rattle.model.specs.Activity.{activity, activities};
+
+// A number for each p from 0 to 256.
+pub type ActivityTable = [u32; 257];
 
 // 2p(256 − p) for each p from 0 to 256.
-const ACTIVITY: [u32; 257] = [
+const ACTIVITY: ActivityTable = [
     0,
     510,
     1016,
@@ -263,9 +266,17 @@ const ACTIVITY: [u32; 257] = [
     0,
 ];
 
-// The activity of a net whose value is 1 with probability p 256ths; 0 for p above 256, which no net has.
-pub fn activity_of(p: u32) -> u32
+// The table.
+pub fn activity_table() -> ActivityTable
+    ensures { λ r. ⌜ r ≡ activities ⌝ }
+{
+    ACTIVITY
+}
+
+// By the table, the activity of a net whose value is 1 with probability p 256ths; 0 for p above 256, which no net has.
+pub fn activity_in(table: &ActivityTable, p: u32) -> u32
+    requires { ⌜ now table ≡ activities ⌝ }
     ensures { λ r. ⌜ r ≡ activity p ⌝ }
 {
-    if p <= 256 { ACTIVITY[p as usize] } else { 0 }
+    if p <= 256 { table[p as usize] } else { 0 }
 }

@@ -34,7 +34,7 @@ store-gate-requires c κs =
     let at-if1 = c .before .before .before .before .before in
     let at-gate-fault = at-if1 .before in
     let start = at-gate-fault .before .before .before .before .before .before .before .before .before in
-    (judged-fits (field-judged at-gate-fault) (at-if1 .if1 .left), (start .pre .0, start .pre .1))
+    (judged-fits (field-judged at-gate-fault) (at-if1 .if1 .left), (start .pre .0, (start .pre .1 .0, start .pre .1 .1)))
 
 offset-behind-requires : tie.Need-offset-behind-requires
 offset-behind-requires c κs = search needs

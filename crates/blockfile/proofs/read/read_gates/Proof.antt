@@ -10,13 +10,13 @@ use Rattle.blockfile.proofs.read.read_gates.Statement.{statement}
 use Rattle.blockfile.proofs.read.read_gates.Tie as tie
 
 abbrev Inv-loop : tie.InvT-loop
-Inv-loop file start gates delays₀ activities₀ counts₀ step-widths₀ drops₀ offset₀ gate₀ delays activities counts step-widths drops offset gate =
+Inv-loop file start gates delays₀ activities₀ counts₀ step-widths₀ drops₀ table offset₀ gate₀ delays activities counts step-widths drops offset gate =
     (gate ≤ gates)
     × GateLengths (gate-arrays delays activities counts step-widths drops) (gate-arrays delays₀ activities₀ counts₀ step-widths₀ drops₀)
     × GatesSoFar file start gate (gate-arrays delays activities counts step-widths drops) offset
 
 abbrev μ-loop : tie.MeasureT-loop
-μ-loop file start gates delays₀ activities₀ counts₀ step-widths₀ drops₀ offset₀ gate₀ delays activities counts step-widths drops offset gate = gates - gate
+μ-loop file start gates delays₀ activities₀ counts₀ step-widths₀ drops₀ table offset₀ gate₀ delays activities counts step-widths drops offset gate = gates - gate
 
 loop-holds : tie.Need-loop-holds Inv-loop μ-loop
 loop-holds c = (omega arith, lengths-same _, gates-none _ _ _)
@@ -25,7 +25,7 @@ read-gate-requires : tie.Need-read-gate-requires Inv-loop μ-loop
 read-gate-requires c κs =
     let at-loop = c .before .before .before .before .before .before in
     let start = at-loop .before .before .before .before .before .before .before in
-    (omega (arith, start .pre .0), lengths-room (at-loop .loop .inv .1) (start .pre .1))
+    (omega (arith, start .pre .0), (lengths-room (at-loop .loop .inv .1) (start .pre .1 .0), start .pre .1 .1))
 
 enum-told : tie.Need-enum-told Inv-loop μ-loop
 enum-told c = search needs
