@@ -22,7 +22,6 @@ use fields::field::wide;
 use fields::reader::due_body;
 use fields::reader::due_field;
 use fields::reader::offset_behind;
-use fields::seen::clear;
 use fields::seen::mark;
 use model::Refusal;
 use model::activity::ActivityTable;
@@ -165,7 +164,7 @@ fn read_wire(
     }
 }
 
-// The wire fields from an offset on until the bytes end, read into the places from 0 on. After a refusal, and beyond these wires, what the arrays hold is free, and so is the table `seen`.
+// The wire fields from an offset on until the bytes end, read into the places from 0 on. After a refusal, and beyond these wires, what the arrays hold is free, and so is the table `seen`, which holds no mark before.
 fn read_wires(
     file: &[u8],
     start: usize,
@@ -177,10 +176,9 @@ fn read_wires(
 ) -> WiresRead
     requires { ⌜ (start ≤ length (now file)) × (gates ≤ max-gates) ⌝ }
     requires { ⌜ WireRoom (wire-arrays (now sources) (now targets) (now «wire_delays»)) ⌝ }
-    requires { ⌜ pairs ≤ length (now seen) ⌝ }
+    requires { ⌜ (pairs ≤ length (now seen)) × Marks (now seen) [] ⌝ }
     ensures { λ r. ⌜ wires-passing (now (file .entry)) r (wire-arrays (now (sources .exit)) (now (targets .exit)) (now («wire_delays» .exit))) ≡ read-wires max-wires gates [] (now (file .entry)) start ⌝ }
 {
-    clear(seen);
     let mut offset = start;
     let mut wires = 0;
     loop {
@@ -227,7 +225,7 @@ fn block_said(body: &[u8], wires: usize, table: &ActivityTable) -> BlockRead
     }
 }
 
-// A block file read into the arrays: the block that they hold, or the first refusal of 1 to 7. After a refusal, and beyond the gates and wires of the file, what the arrays hold is free, and so is the table `seen`.
+// A block file read into the arrays: the block that they hold, or the first refusal of 1 to 7. After a refusal, and beyond the gates and wires of the file, what the arrays hold is free, and so is the table `seen`, which holds no mark before.
 pub fn read_block(
     file: &[u8],
     delays: &mut [u32],
@@ -242,7 +240,7 @@ pub fn read_block(
 ) -> BlockRead
     requires { ⌜ GateRoom (gate-arrays (now delays) (now activities) (now counts) (now «step_widths») (now drops)) ⌝ }
     requires { ⌜ WireRoom (wire-arrays (now sources) (now targets) (now «wire_delays»)) ⌝ }
-    requires { ⌜ pairs ≤ length (now seen) ⌝ }
+    requires { ⌜ (pairs ≤ length (now seen)) × Marks (now seen) [] ⌝ }
     ensures { λ r. ⌜ block-passing (now (file .entry)) r (gate-arrays (now (delays .exit)) (now (activities .exit)) (now (counts .exit)) (now («step_widths» .exit)) (now (drops .exit))) (wire-arrays (now (sources .exit)) (now (targets .exit)) (now («wire_delays» .exit))) ≡ read-block (now (file .entry)) ⌝ }
 {
     let table = activity_table();

@@ -1,15 +1,15 @@
 -- The table of joined pairs: empty at first, and one pair more after each wire. Two pairs of gates below 64 have different places.
 -- Assumes nothing.
-use mathlib.Core.Path.{_≡_, refl, _∙_}
-use mathlib.Core.Logic.{⊎-elim, _≢_}
+use mathlib.Core.Path.{_≡_, refl}
+use mathlib.Core.Logic.{_≢_}
 use mathlib.Core.Bool.{Bool, true, false, not, _&&_, _||_}
 use mathlib.Core.List.{List, [], _∷_}
-use Prim.Native.Nat.{ℕ, _+_, _<_, _≤_}
-use native.Mathlib.Nat.{eq-or-lt-of-le}
+use Prim.Native.Nat.{ℕ, _<_, _≤_}
+use native.Mathlib.Nat.{le-refl}
 use native.Mathlib.Omega.{arith}
 use borrow.Author.Tests.{eq-eqb, eqb-true, ltb-true}
 use lib.Dec.{eqb, ltb}
-use lib.ListN.{length, getD, set}
+use lib.ListN.{length, getD, set, replicate, length-replicate, getD-replicate}
 use lib.Seq.{getD-set-same, getD-set-other}
 use Rattle.lists.proofs.Bool.{cases}
 use Rattle.model.specs.Block.{Wire}
@@ -21,6 +21,10 @@ pub marks-none : (table : List ℕ) → ((i : ℕ) → i < pairs → getD table 
 unfolding some
 marks-none table p =
     record { at-pair = λ (a b : ℕ) (h : a < 64) (k : b < 64). eq-eqb (getD table (pair-place a b) 0) 0 (p (pair-place a b) (omega arith)) }
+
+-- a table of zeros, as it is made
+pub no-marks : (pairs ≤ length (replicate {A = ℕ} pairs 0)) × Marks (replicate pairs 0) []
+no-marks = (rw length-replicate (le-refl pairs), marks-none (replicate pairs 0) (λ (i : ℕ) (h : i < pairs). getD-replicate pairs i 0 0 h))
 
 both : (x y : Bool) → x && y ≡ true → (x ≡ true) × (y ≡ true)
 both true y e = (refl, e)
@@ -54,14 +58,6 @@ marks-more table ws c d long g l m = record { at-pair = at }
         rw (t, x, y, getD-set-same table (pair-place c d) 1 0 (omega arith)))
         (λ (t : same-ends (between a b) (between c d) ≡ false).
         rw (t, getD-set-other table (pair-place c d) (pair-place a b) 1 0 (apart a b c d k l t)) (m .at-pair a b h k))
-
--- one byte more is cleared
-pub cleared-more : (table : List ℕ) (i : ℕ) → i < length table → ((k : ℕ) → k < i → getD table k 0 ≡ 0) → (k : ℕ) → k < i + 1 → getD (set table i 0) k 0 ≡ 0
-cleared-more table i h p k l =
-    ⊎-elim
-    (λ (e : k ≡ i). rw (e, getD-set-same table i 0 0 h))
-    (λ (m : k < i). getD-set-other table i k 0 0 (omega arith) ∙ p k m)
-    (eq-or-lt-of-le (omega arith))
 
 -- the ends of a wire that is in range
 pub ends-below : (n : ℕ) (w : Wire) → in-range (wire n []) w ≡ true → (w .source < n) × (w .target < n)

@@ -7,7 +7,6 @@ ghost use Rattle.model.specs.Limits.{max-gates};
 ghost use Rattle.model.specs.Block.{Wire};
 ghost use Rattle.model.specs.File.{wire, says, fresh};
 ghost use Rattle.fields.specs.Seen.{pairs, pair-place, between, Marks};
-use model::limits::GATES_SQUARED;
 use model::limits::MAX_GATES;
 
 // The place of a pair of gates.
@@ -15,18 +14,6 @@ pub fn pair_place(source: u8, target: u8) -> usize
     ensures { λ r. ⌜ r ≡ pair-place source target ⌝ }
 {
     MAX_GATES * (source as usize) + target as usize
-}
-
-// Clears the table: no wire stood.
-pub fn clear(seen: &mut [u8])
-    requires { ⌜ pairs ≤ length (now seen) ⌝ }
-    ensures { λ _. ⌜ Marks (now (seen .exit)) [] ⌝ }
-{
-    let mut i = 0;
-    while i < GATES_SQUARED {
-        seen[i] = 0;
-        i += 1;
-    }
 }
 
 // Notes a wire in the table.

@@ -1,6 +1,7 @@
 -- `loading::load` meets its contract: the file read, then its network judged. Assumes nothing.
 use borrow.Author.Needs.{needs}
 use native.Mathlib.Omega.{arith}
+use Rattle.fields.proofs.Pairs.{no-marks}
 use Rattle.blockfile.specs.Held.{gate-arrays, wire-arrays}
 use Rattle.loading.proofs.Loading.{not-read, room-kept, lent-read, loaded}
 use Rattle.loading.proofs.load.Statement.{statement}
@@ -10,7 +11,9 @@ slice-aggregate-read-block : tie.Need-slice-aggregate-read-block
 slice-aggregate-read-block c = search needs
 
 read-block-requires : tie.Need-read-block-requires
-read-block-requires c κs = search needs
+read-block-requires c κs =
+    let start = c .before .before .before .before .before .before .before .before .before .before .before .before .before .before .before .before .before .before .before in
+    (start .pre .0, (start .pre .1 .0, no-marks))
 
 enum-known-read : tie.Need-enum-known-read
 enum-known-read c = search needs

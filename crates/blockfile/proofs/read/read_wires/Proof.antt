@@ -20,21 +20,17 @@ Inv-loop file start gates sources₀ targets₀ wire-delays₀ seen₀ offset₀
 abbrev μ-loop : tie.MeasureT-loop
 μ-loop file start gates sources₀ targets₀ wire-delays₀ seen₀ offset₀ wires₀ sources targets wire-delays seen offset wires = 256 - wires
 
-clear-requires : tie.Need-clear-requires Inv-loop μ-loop
-clear-requires c κs = c .before .before .before .before .before .before .pre .1 .1
-
 loop-holds : tie.Need-loop-holds Inv-loop μ-loop
 loop-holds c =
-    let start = c .before .before .before .before .before .before .before .before .before in
-    (omega arith, wire-lengths-same _, refl, so-far-none _ _ _ _ _ (c .before .before .clear .ensures) (start .pre .0 .0))
+    let start = c .before .before .before .before .before in
+    (omega arith, wire-lengths-same _, refl, so-far-none _ _ _ _ _ (start .pre .1 .1 .1) (start .pre .0 .0))
 
 read-wire-requires : tie.Need-read-wire-requires Inv-loop μ-loop
 read-wire-requires c κs =
     let at-if2 = c .before .before .before .before in
     let at-loop = at-if2 .before .before in
-    let at-clear = at-loop .before .before .before in
-    let start = at-clear .before .before .before .before .before .before .before in
-    ((start .pre .0 .1, omega (arith, at-loop .loop .inv .0, at-if2 .if2 .left)), (wire-lengths-room (at-loop .loop .inv .1) (start .pre .1 .0), (omega (arith, at-loop .loop .inv .2, at-clear .clear .kept .0, start .pre .1 .1), (wires-held (wire-arrays (at-loop .loop .sources) (at-loop .loop .targets) (at-loop .loop .wire-delays)) (at-loop .loop .wires), at-loop .loop .inv .3 .marks))))
+    let start = at-loop .before .before .before .before .before .before in
+    ((start .pre .0 .1, omega (arith, at-loop .loop .inv .0, at-if2 .if2 .left)), (wire-lengths-room (at-loop .loop .inv .1) (start .pre .1 .0), (omega (arith, at-loop .loop .inv .2, start .pre .1 .1 .0), (wires-held (wire-arrays (at-loop .loop .sources) (at-loop .loop .targets) (at-loop .loop .wire-delays)) (at-loop .loop .wires), at-loop .loop .inv .3 .marks))))
 
 enum-known-passed : tie.Need-enum-known-passed Inv-loop μ-loop
 enum-known-passed c = search needs
@@ -71,7 +67,7 @@ same-length-3 : tie.Need-same-length-3 Inv-loop μ-loop
 same-length-3 c = c .before .loop .inv .1 .delays
 
 same-length-4 : tie.Need-same-length-4 Inv-loop μ-loop
-same-length-4 c = c .before .loop .inv .2 ∙ c .before .before .before .before .clear .kept .0
+same-length-4 c = c .before .loop .inv .2
 
 returns : tie.Need-returns Inv-loop μ-loop
 returns c = so-far-ended (c .before .loop .inv .3) (c .before .loop .inv .0) (c .if1 .taken)
@@ -86,7 +82,7 @@ same-length-7 : tie.Need-same-length-7 Inv-loop μ-loop
 same-length-7 c = c .before .before .loop .inv .1 .delays
 
 same-length-8 : tie.Need-same-length-8 Inv-loop μ-loop
-same-length-8 c = c .before .before .loop .inv .2 ∙ c .before .before .before .before .before .clear .kept .0
+same-length-8 c = c .before .before .loop .inv .2
 
 returns-2 : tie.Need-returns-2 Inv-loop μ-loop
 returns-2 c = so-far-full (c .before .before .loop .inv .3) (c .if2 .taken) (c .before .if1 .left)
@@ -113,8 +109,7 @@ same-length-12 : tie.Need-same-length-12 Inv-loop μ-loop
 same-length-12 c =
     let at-read-wire = c .before .before .before .before .before .before .before .before .before .before .before in
     let at-loop = at-read-wire .before .before .before .before .before .before .before in
-    let at-clear = at-loop .before .before .before in
-    at-read-wire .read-wire .kept .1 .1 .1 .1 .1 .1 .1 .0 ∙ at-loop .loop .inv .2 ∙ at-clear .clear .kept .0
+    at-read-wire .read-wire .kept .1 .1 .1 .1 .1 .1 .1 .0 ∙ at-loop .loop .inv .2
 
 returns-3 : tie.Need-returns-3 Inv-loop μ-loop
 returns-3 c =
@@ -125,4 +120,4 @@ returns-3 c =
     so-far-refused (at-loop .loop .inv .3) _ _ (c .before .passed .given .0 .0) (omega (arith, at-loop .loop .inv .0, at-if2 .if2 .left)) (at-if1 .if1 .left) (rw (c .before .passed .given .1) at (at-read-wire .read-wire .ensures))
 
 pub read-wires-spec : {M : Type 1} → statement M
-read-wires-spec = tie.close (tie.spec Inv-loop μ-loop clear-requires loop-holds read-wire-requires enum-known-passed enum-known-passed-2 add-wires loop-less loop-again same-length same-length-2 same-length-3 same-length-4 returns same-length-5 same-length-6 same-length-7 same-length-8 returns-2 same-length-9 same-length-10 same-length-11 same-length-12 returns-3)
+read-wires-spec = tie.close (tie.spec Inv-loop μ-loop loop-holds read-wire-requires enum-known-passed enum-known-passed-2 add-wires loop-less loop-again same-length same-length-2 same-length-3 same-length-4 returns same-length-5 same-length-6 same-length-7 same-length-8 returns-2 same-length-9 same-length-10 same-length-11 same-length-12 returns-3)
