@@ -6,7 +6,6 @@ use Prim.Native.Nat.{ℕ, _+_, _-_, _*_, _^_, _≤_, _<_, min, max}
 use native.Mathlib.Nat.{mul-le-mul-right, mul-le-mul-left, add-mul}
 use native.Mathlib.Omega.{arith}
 use lib.ListN.{length}
-use Rattle.lists.specs.Sum.{sum}
 use Rattle.model.specs.Limits.{max-gates, max-pairs, max-gain, max-activity, max-drop, max-time}
 use Rattle.model.specs.Block.{Block, gate-count}
 use Rattle.model.specs.Curve.{Pair, count-off}
@@ -14,7 +13,6 @@ use Rattle.optimum.specs.BlockTree.{block-tree, increases, pairs-of}
 use Rattle.optimum.proofs.Curve.{saving-after, pairs-few}
 use Rattle.optimum.proofs.Optimum.{pair-range}
 use Rattle.gains.specs.Savings.{most-of-gate}
-use Rattle.sizing.specs.Pairs.{Spent}
 use Rattle.sizing.proofs.Blocks.{heads-are}
 use Rattle.sizing.proofs.Spent.{spent-increases, spent-earns}
 use Rattle.curve.specs.Position.{pairs-in}

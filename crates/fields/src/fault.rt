@@ -1,4 +1,5 @@
 // The number of a field's refusal, 0 if it has none, in document 01's order: short header (1), tag (2), length (3), short body (1), range (4), drops (5), wire (6).
+// Public for `blockfile` alone.
 ghost use mathlib.Core.Path.{_≡_};
 ghost use mathlib.Core.List.{List};
 ghost use Prim.Native.Nat.{_≤_};

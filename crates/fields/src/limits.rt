@@ -1,4 +1,5 @@
 // Tags, lengths and ranges of the fields of edition 1. They stand here and nowhere else in the code, but for the numbers of gates, steps and wires (`model::limits`).
+// Public for `blockfile` alone.
 ghost use mathlib.Core.Path.{_≡_};
 ghost use mathlib.Core.Bool.{true};
 ghost use mathlib.Core.List.{[]};

@@ -1,4 +1,5 @@
 // Ticks handed out at a node: in series to the item that leads, in parallel to both sides. The two functions call each other; each hand-over from a parallel part is to one with fewer wires.
+// Public for `sizing` alone.
 use heads::below::renew_up;
 use heads::gate::gate_give_out;
 use heads::store::GateGains;

@@ -1,4 +1,4 @@
--- The state of the reduction: the wires left, in slots of fixed place with a live flag, each with the part that it stands for; and the step that takes one gate away (DESIGN, "Reduction").
+-- The state of the reduction: the wires left, in slots of fixed place with a live flag, each with the part that it stands for; and the step that takes one gate away.
 -- Slots are never moved, so a slot is named by its number. Slots beyond those in use are dead.
 use mathlib.Core.Path.{_≡_}
 use mathlib.Core.Logic.{_≢_}

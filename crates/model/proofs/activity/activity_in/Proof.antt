@@ -1,10 +1,9 @@
 -- `model::activity::activity_in` meets its contract: the rule is carried to the entry that is read; above 256 the difference is 0.
 -- Assumes nothing.
-use mathlib.Core.Path.{_≡_, _∙_, ap}
-use Prim.Native.Nat.{ℕ, _-_}
+use mathlib.Core.Path.{_≡_}
+use Prim.Native.Nat.{_-_}
 use native.Mathlib.Nat.{mul-zero}
 use native.Mathlib.Omega.{arith}
-use lib.ListN.{getD}
 use borrow.Author.Needs.{needs}
 use Rattle.lists.proofs.Table.{entry}
 use Rattle.model.specs.Activity.{activity, activities}
