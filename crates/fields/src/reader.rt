@@ -1,5 +1,5 @@
 // The field reader: the file with the offset of the field that is due. It hands out the field and its body, and goes on behind it.
-// `read` takes every field, body and next offset of a file from it, by the last three functions, whose parameters are the reader's two parts.
+// `blockfile::read` takes every field, body and next offset of a file from it, by the last three functions, whose parameters are the reader's two parts.
 ghost use mathlib.Core.Path.{_≡_};
 ghost use Rattle.model.specs.Field.{field-at};
 ghost use Rattle.fields.specs.Behind.{offset-behind};
