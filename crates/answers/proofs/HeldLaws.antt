@@ -30,7 +30,7 @@ use Rattle.loading.specs.HeldFile.{HeldFile}
 use Rattle.loading.proofs.Held.{gates-are, wires-are, lent, some-gate, delay-is, delay-most, wire-delay-most}
 use Rattle.loading.proofs.Refused.{wire-room}
 use Rattle.loading.proofs.Held as Held
-use Rattle.parts.specs.Wired.{Wired}
+use Rattle.reduction.specs.Wired.{Wired}
 use Rattle.optimum.specs.BlockTree.{block-tree, start-of}
 use Rattle.optimum.proofs.BlockTree.{block-is-tree}
 use Rattle.optimum.proofs.Within.{start-is-start}

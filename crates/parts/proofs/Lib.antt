@@ -9,14 +9,3 @@ pub mod Nodes
 pub mod Search
 pub mod Reduce
 pub mod Ascending
-pub mod SoughtLaws
-pub mod TallyLaws
-pub mod Held
-pub mod TakeLaws
-pub mod GoingLaws
-pub mod SettleLaws
-pub mod TableLaws
-pub mod QueueLaws
-pub mod TurnLaws
-pub mod LayLaws
-pub mod FinishLaws

@@ -3,11 +3,6 @@ pub mod Slots
 pub mod Invariant
 pub mod Network
 pub mod Nodes
+pub mod Rooted
 pub mod Reduce
 pub mod Ascending
-pub mod Tallies
-pub mod Sought
-pub mod Arrays
-pub mod Going
-pub mod Wired
-pub mod Answered

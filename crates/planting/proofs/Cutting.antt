@@ -7,7 +7,7 @@ use lib.ListN.{length, take}
 use lib.Seq.{getD-take}
 use Rattle.model.specs.Block.{Block}
 use Rattle.parts.specs.Nodes.{Nodes, Tree, tree-of}
-use Rattle.parts.specs.Answered.{Rooted}
+use Rattle.parts.specs.Rooted.{Rooted}
 use Rattle.parts.proofs.Nodes.{SameNode, grown}
 use Rattle.planting.specs.Copy.{Plot, plot, max-reduced, Readable}
 use Rattle.planting.specs.Planted.{kind, parent, Planted}

@@ -11,9 +11,9 @@ use Rattle.model.specs.Part.{SeriesParallel, built}
 use Rattle.model.specs.Part as Part
 use Rattle.parts.specs.Nodes.{Nodes, tree-of}
 use Rattle.parts.specs.Network.{Network}
-use Rattle.parts.specs.Wired.{Given as Reducible}
-use Rattle.parts.specs.Answered.{Rooted}
+use Rattle.parts.specs.Rooted.{Rooted}
 use Rattle.parts.proofs.Gates.{part-ends}
+use Rattle.reduction.specs.Wired.{Given as Reducible}
 use Rattle.optimum.specs.BlockTree.{block-tree, lone-tree}
 use Rattle.planting.specs.Copy.{Plot, nodes-of, max-reduced, planted-in, max-nodes, Readable, Room}
 use Rattle.planting.specs.Planted.{as-tree, whole, lone, Planted}

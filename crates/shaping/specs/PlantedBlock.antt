@@ -8,7 +8,7 @@ use Rattle.model.specs.Part.{SeriesParallel}
 use Rattle.model.specs.Refusal.{SoundNetwork}
 use Rattle.model.proofs.Limited.{BlockLimits}
 use Rattle.parts.specs.Nodes.{Tree}
-use Rattle.parts.specs.Wired.{Wired}
+use Rattle.reduction.specs.Wired.{Wired}
 use Rattle.optimum.specs.BlockTree.{block-tree}
 use Rattle.planting.specs.Copy.{Plot, planted-in, max-nodes}
 use Rattle.planting.specs.Planted.{as-tree, Planted}

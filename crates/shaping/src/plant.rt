@@ -1,12 +1,12 @@
 // The tree of a block's parts, planted in node arrays.
 use model::limits::MAX_GATES;
 use model::limits::MAX_WIRES;
-use parts::Answer;
-use parts::reduce_network;
 use planting::MAX_REDUCED;
 use planting::NodeNumbers;
 use planting::plant;
 use planting::plant_lone;
+use reduction::reduce_network;
+use slots::Answer;
 ghost use Rattle.model.specs.Block.{Block};
 ghost use Rattle.planting.specs.Copy.{plot};
 ghost use Rattle.shaping.specs.PlantedBlock.{Given, WiresLong, NodesLong, PlantedOrNot};

@@ -1,0 +1,4 @@
+pub mod Arrays
+pub mod Going
+pub mod Wired
+pub mod Answered

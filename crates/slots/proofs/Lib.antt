@@ -1,0 +1,3 @@
+pub mod SoughtLaws
+pub mod TableLaws
+pub mod FinishLaws

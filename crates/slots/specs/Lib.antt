@@ -1,0 +1,3 @@
+pub mod Sought
+pub mod Table
+pub mod Picked
