@@ -1,10 +1,10 @@
--- `optimum::best_of` meets its contract: one case for each pair of answers of `leads`.
+-- `ties::best_of` meets its contract: one case for each pair of answers of `leads`.
 -- Assumes nothing.
 use borrow.Author.Needs.{needs}
-use Rattle.optimum.specs.Code.{head-of}
-use Rattle.optimum.proofs.Order.{best-is-last, best-is-middle, last-passes, best-is-first}
-use Rattle.optimum.proofs.best_of.Statement.{statement}
-use Rattle.optimum.proofs.best_of.Tie as tie
+use Rattle.ties.specs.Code.{head-of}
+use Rattle.ties.proofs.Comparing.{best-is-last, best-is-middle, last-passes, best-is-first}
+use Rattle.ties.proofs.best_of.Statement.{statement}
+use Rattle.ties.proofs.best_of.Tie as tie
 
 leads-requires : tie.Need-leads-requires
 leads-requires c κs = search needs

@@ -1,11 +1,11 @@
--- `optimum::leads` meets its contract: one case for each order of the two gains.
+-- `ties::leads` meets its contract: one case for each order of the two gains.
 -- Assumes nothing.
 use native.Mathlib.Omega.{arith}
 use borrow.Author.Tests.{ltb-true, ltb-false, eqb-true, eqb-false}
-use Rattle.optimum.proofs.Order.{leads-more, leads-same, leads-less}
-use Rattle.optimum.specs.Code.{head-of}
-use Rattle.optimum.proofs.leads.Statement.{statement}
-use Rattle.optimum.proofs.leads.Tie as tie
+use Rattle.ties.proofs.Comparing.{leads-more, leads-same, leads-less}
+use Rattle.ties.specs.Code.{head-of}
+use Rattle.ties.proofs.leads.Statement.{statement}
+use Rattle.ties.proofs.leads.Tie as tie
 
 returns : tie.Need-returns
 returns c =
