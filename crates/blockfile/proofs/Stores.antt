@@ -13,8 +13,8 @@ use Rattle.model.specs.Activity.{activity}
 use Rattle.model.specs.Field.{number}
 use Rattle.model.specs.Arrays.{step-place, step-at}
 use Rattle.blockfile.specs.Held.{Kept, StepsStored, GateStored, gate-arrays}
-use Rattle.fields.specs.Kinds.{step-of}
-use Rattle.fields.proofs.Steps.{by-index, steps-part}
+use Rattle.ranges.specs.Kinds.{step-of}
+use Rattle.ranges.proofs.Steps.{by-index, steps-part}
 
 -- nothing is stored yet
 pub kept-all : (n : ℕ) (l : List ℕ) → Kept n l l

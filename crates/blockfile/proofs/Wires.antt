@@ -23,8 +23,8 @@ use Rattle.blockfile.specs.declared.read.FieldRead.the-variants.{Read, R
 use Rattle.fields.specs.Behind.{offset-behind}
 use Rattle.blockfile.specs.Held.{WireArrays, wire-arrays, wire-held, wires-held, WireRoom}
 use Rattle.blockfile.specs.Reads.{WireRead, refusing}
-use Rattle.fields.specs.Seen.{between, Marks}
-use Rattle.fields.proofs.Pairs.{ends-below}
+use Rattle.ranges.specs.Seen.{between, Marks}
+use Rattle.ranges.proofs.Pairs.{ends-below}
 use Rattle.blockfile.proofs.Stores.{kept-all, kept-set}
 use Rattle.blockfile.proofs.Judged.{Judged, read-not-refused, judged-refused, judged-fits, judged-found, judged-ranges}
 

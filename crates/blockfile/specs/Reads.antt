@@ -18,7 +18,7 @@ use Rattle.blockfile.specs.declared.read.WiresRead.the-variants as Wires
 use Rattle.blockfile.specs.declared.read.BlockRead.{BlockRead}
 use Rattle.blockfile.specs.declared.read.BlockRead.the-variants as Whole
 use Rattle.blockfile.specs.Held.{GateArrays, gate-held, gates-held, GatesKept, WireArrays, wire-held, wires-held, WiresKept}
-use Rattle.fields.specs.Seen.{Marks}
+use Rattle.ranges.specs.Seen.{Marks}
 
 -- the refusal's number and place
 abbrev pub refusing : {A : Type 0} → Refusal → Reading A

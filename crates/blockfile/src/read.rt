@@ -11,23 +11,23 @@ ghost use Rattle.model.specs.Netlist.{gate-of};
 ghost use Rattle.model.specs.File.{read-gates, read-wires, read-block};
 ghost use Rattle.blockfile.specs.Held.{gate-arrays, gates-held, GateRoom, wire-arrays, WireRoom};
 ghost use Rattle.blockfile.specs.Reads.{GateRead, WireRead, passing, reading-map, wires-passing, said-of, block-passing};
-ghost use Rattle.fields.specs.Seen.{pairs, Marks};
+ghost use Rattle.ranges.specs.Seen.{pairs, Marks};
 use crate::store::store_gate;
-use fields::fault::block_fault;
-use fields::fault::gate_fault;
-use fields::fault::refusal_of;
-use fields::fault::wire_fault;
+use faults::block_fault;
+use faults::gate_fault;
+use faults::refusal_of;
+use faults::wire_fault;
 use fields::field::number_at;
 use fields::field::wide;
 use fields::reader::due_body;
 use fields::reader::due_field;
 use fields::reader::offset_behind;
-use fields::seen::mark;
 use model::Refusal;
 use model::activity::ActivityTable;
 use model::activity::activity_in;
 use model::activity::activity_table;
 use model::limits::MAX_WIRES;
+use ranges::seen::mark;
 
 // A field, or several, were read up to an offset, or refused.
 enum FieldRead {

@@ -8,11 +8,11 @@ ghost use Rattle.model.specs.Activity as Activity;
 ghost use Rattle.model.specs.File as File;
 ghost use Rattle.blockfile.specs.Held.{GateRoom, StepsStored, GateStored, gate-arrays};
 use fields::field::number_at;
-use fields::limits::GATE_BYTES;
-use fields::limits::STEP_BYTES;
 use model::activity::ActivityTable;
 use model::activity::activity_in;
 use model::limits::MAX_STEPS;
+use ranges::limits::GATE_BYTES;
+use ranges::limits::STEP_BYTES;
 
 // Stores the steps of a gate, and answers how many they are.
 pub fn store_steps(steps: &[u8], gate: usize, step_widths: &mut [u32], drops: &mut [u32]) -> u32

@@ -1,5 +1,2 @@
 pub mod Behind
 pub mod Body
-pub mod Kinds
-pub mod Shape
-pub mod Seen

@@ -1,6 +1,3 @@
-// The fields of a block file, one at a time: where they begin and end, the field reader, and their faults (refusals 1 to 6).
-pub mod fault;
+// The fields of a block file, one at a time: where they begin and end, and the field reader.
 pub mod field;
-pub mod limits;
 pub mod reader;
-pub mod seen;

@@ -5,12 +5,12 @@ use crate::store::head_at;
 use crate::store::index;
 use crate::store::write_head;
 use model::limits::GateNumbers;
-use optimum::Head;
-use optimum::beside;
-use optimum::best_of;
 use planting::NodeNumbers;
+use ties::Head;
+use ties::beside;
+use ties::best_of;
 ghost use mathlib.Core.Path.{_≡_};
-ghost use Rattle.optimum.specs.Code.{head-of};
+ghost use Rattle.ties.specs.Code.{head-of};
 ghost use Rattle.heads.specs.Plan.{nodes-in};
 ghost use Rattle.heads.specs.Stored.{Made, Renewable, Renewed, stored, head-below, put};
 

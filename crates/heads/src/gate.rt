@@ -2,13 +2,13 @@
 use crate::store::index;
 use crate::store::write_head;
 use model::limits::MAX_STEPS;
-use optimum::Head;
-use optimum::rank;
+use ties::Head;
+use ties::rank;
 ghost use mathlib.Core.Path.{_≡_};
 ghost use Prim.Native.Nat.{ℕ, _+_, _*_, _^_, _≤_, _<_};
 ghost use lib.ListN.{getD, length};
 ghost use Rattle.model.specs.Limits.{max-steps, max-drop};
-ghost use Rattle.optimum.specs.Code.{head-of};
+ghost use Rattle.ties.specs.Code.{head-of};
 ghost use Rattle.heads.specs.Plan.{most-gates, most-input, heads-in, step-head, StepsLent};
 ghost use Rattle.heads.specs.Stored.{Room, stored};
 ghost use Rattle.heads.specs.GateHeads.{Added};

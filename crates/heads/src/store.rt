@@ -1,9 +1,9 @@
 // Heads stored in arrays, an entry a gate or a node.
 use model::limits::MAX_GATES;
-use optimum::Head;
 use planting::MAX_NODES;
+use ties::Head;
 ghost use mathlib.Core.Path.{_≡_};
-ghost use Rattle.optimum.specs.Code.{head-of};
+ghost use Rattle.ties.specs.Code.{head-of};
 ghost use Rattle.heads.specs.Stored.{Room, stored, head-at, put};
 
 // A gain for each gate.

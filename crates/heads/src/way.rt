@@ -1,11 +1,11 @@
 // The way down nested series nodes to the item that gets the ticks of a part.
 use crate::store::head_at;
 use crate::store::index;
-use optimum::Head;
-use optimum::leads;
+use ties::Head;
+use ties::leads;
 ghost use mathlib.Core.Path.{_≡_};
 ghost use Rattle.optimum.specs.Head.{item, turn};
-ghost use Rattle.optimum.specs.Code.{head-of};
+ghost use Rattle.ties.specs.Code.{head-of};
 ghost use Rattle.heads.specs.Plan.{nodes-in};
 ghost use Rattle.heads.specs.Stored.{Made, Walkable, Ended, stored, next-down};
 

@@ -6,8 +6,8 @@ use mathlib.Core.Bool.{Bool, true, false, cond}
 use Prim.Native.Nat.{_+_, _≤_, _<_, max, min}
 use native.Mathlib.Omega.{arith}
 use lib.Dec.{ltb, eqb}
-use borrow.Author.Tests.{ltb-true, ltb-false, eqb-true, eqb-false, lt-ltb, le-ltb, eq-eqb, ne-eqb}
-use Rattle.optimum.specs.Head.{Head, leads, Item, left, gate, right, turn, best-of, beside}
+use borrow.Author.Tests.{ltb-true, ltb-false, eqb-true, eqb-false, eq-eqb, ne-eqb}
+use Rattle.optimum.specs.Head.{Head, leads, Item, left, gate, right, turn, beside}
 
 -- a comes before b
 abbrev pub Ahead : Head → Head → Type 0
@@ -75,40 +75,6 @@ by-sides a b C on-right on-left on-both = go (eqb (a .gain) 0) (eqb (b .gain) 0)
     go true q ea eb = on-right (eqb-true _ _ ea)
     go false true ea eb = on-left (omega (arith, eqb-false (a .gain) 0 ea)) (eqb-true _ _ eb)
     go false false ea eb = on-both (omega (arith, eqb-false (a .gain) 0 ea)) (omega (arith, eqb-false (b .gain) 0 eb))
-
--- the answer of `leads`, by the two gains
-pub leads-more : (a b : Head) → b .gain < a .gain → true ≡ leads a b
-unfolding leads
-leads-more a b l = rw (lt-ltb (b .gain) (a .gain) l) refl
-
-pub leads-same : (a b : Head) → a .gain ≡ b .gain → ltb (a .rank) (b .rank) ≡ leads a b
-unfolding leads
-leads-same a b e =
-    let l : a .gain ≤ b .gain = omega arith in
-    rw (le-ltb (b .gain) (a .gain) l, eq-eqb (a .gain) (b .gain) e) refl
-
-pub leads-less : (a b : Head) → a .gain < b .gain → false ≡ leads a b
-unfolding leads
-leads-less a b l =
-    let m : a .gain ≤ b .gain = omega arith in
-    rw (le-ltb (b .gain) (a .gain) m, ne-eqb (a .gain) (b .gain) (λ e. omega arith)) refl
-
--- the best of three heads, by the answers of `leads`
-pub best-is-last : (a b c : Head) → leads b a ≡ true → leads c b ≡ true → c ≡ best-of a b c
-unfolding turn
-best-is-last a b c e k = rw (e, k) refl
-
-pub best-is-middle : (a b c : Head) → leads b a ≡ true → leads c b ≡ false → b ≡ best-of a b c
-unfolding turn
-best-is-middle a b c e k = rw (e, k) refl
-
-pub last-passes : (a b c : Head) → leads b a ≡ false → leads c a ≡ true → c ≡ best-of a b c
-unfolding turn
-last-passes a b c e k = rw (e, k) refl
-
-pub best-is-first : (a b c : Head) → leads b a ≡ false → leads c a ≡ false → a ≡ best-of a b c
-unfolding turn
-best-is-first a b c e k = rw (e, k) refl
 
 -- side by side, by who has a head
 pub beside-right : (a b : Head) → a .gain ≡ 0 → beside a b ≡ b

@@ -5,4 +5,3 @@ pub mod Increases
 pub mod Gates
 pub mod Runs
 pub mod BlockTree
-pub mod Code

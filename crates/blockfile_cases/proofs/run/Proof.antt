@@ -1,7 +1,7 @@
 -- `blockfile_cases::run` is safe: the arrays are as long as a file may ask for, and no wire stands in the table.
 -- Assumes nothing.
 use borrow.Author.Needs.{needs}
-use Rattle.fields.proofs.Pairs.{no-marks}
+use Rattle.ranges.proofs.Pairs.{no-marks}
 use Rattle.blockfile_cases.proofs.run.Statement.{statement}
 use Rattle.blockfile_cases.proofs.run.Tie as tie
 

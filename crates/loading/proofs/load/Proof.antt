@@ -1,7 +1,7 @@
 -- `loading::load` meets its contract: the file read, then its network judged. Assumes nothing.
 use borrow.Author.Needs.{needs}
 use native.Mathlib.Omega.{arith}
-use Rattle.fields.proofs.Pairs.{no-marks}
+use Rattle.ranges.proofs.Pairs.{no-marks}
 use Rattle.blockfile.specs.Held.{gate-arrays, wire-arrays}
 use Rattle.loading.proofs.Loading.{not-read, room-kept, lent-read, loaded}
 use Rattle.loading.proofs.load.Statement.{statement}

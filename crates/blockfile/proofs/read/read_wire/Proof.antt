@@ -5,7 +5,7 @@ use mathlib.Core.List.{List}
 use native.Mathlib.Omega.{arith}
 use Rattle.model.specs.Block.{Wire}
 use Rattle.model.specs.File.{wire}
-use Rattle.fields.specs.Seen.{Marks}
+use Rattle.ranges.specs.Seen.{Marks}
 use Rattle.blockfile.proofs.Judged.{Judged, judged, at-most-6}
 use Rattle.blockfile.proofs.Wires.{two-gates, wire-refused, wire-found}
 use Rattle.blockfile.proofs.read.read_wire.Statement.{statement}

@@ -5,7 +5,7 @@ use mathlib.Core.Path.{_∙_, ap}
 use native.Mathlib.Omega.{arith}
 use lib.ListN.{length, length-drop}
 use Rattle.model.specs.Activity.{activity}
-use Rattle.fields.proofs.Steps.{gate-length, steps-part}
+use Rattle.ranges.proofs.Steps.{gate-length, steps-part}
 use Rattle.blockfile.proofs.Stores.{gate-stored}
 use Rattle.blockfile.proofs.store.store_gate.Statement.{statement}
 use Rattle.blockfile.proofs.store.store_gate.Tie as tie

@@ -1,6 +1,6 @@
 -- `heads::way::leading` meets its contract: one case for each pair of answers of `leads`. Assumes nothing.
 use borrow.Author.Needs.{needs}
-use Rattle.optimum.specs.Code.{head-of}
+use Rattle.ties.specs.Code.{head-of}
 use Rattle.heads.proofs.Descent.{last-leads, middle-leads, last-passes, first-leads}
 use Rattle.heads.proofs.way.leading.Statement.{statement}
 use Rattle.heads.proofs.way.leading.Tie as tie

@@ -1,0 +1,54 @@
+-- `ranges::limits::block_in_range` meets its contract: each test decides one of the definition's. Arrival and deadline are in range since they have two bytes.
+-- Assumes nothing.
+use borrow.Author.Needs.{needs}
+use Prim.Native.Nat.{_≤_}
+use native.Mathlib.Omega.{arith}
+use borrow.Author.Tests.{eq-eqb, ne-eqb, lt-leb, le-leb}
+use lib.ListN.{getD}
+use Rattle.model.specs.Field.{number}
+use Rattle.ranges.proofs.limits.block_in_range.Statement.{statement}
+use Rattle.ranges.proofs.limits.block_in_range.Tie as tie
+
+shared-slice-read-if1 : tie.Need-shared-slice-read-if1
+shared-slice-read-if1 c = search needs
+
+returns : tie.Need-returns
+returns c = rw (ne-eqb _ _ (c .if1 .taken))
+
+shared-slice-read-if2 : tie.Need-shared-slice-read-if2
+shared-slice-read-if2 c = search needs
+
+returns-2 : tie.Need-returns-2
+returns-2 c = rw (eq-eqb _ _ (c .before .before .if1 .left), lt-leb 1 (getD (c .before .before .before .before .before .args .body .now) 1 0) (omega arith))
+
+shared-slice-read-if3 : tie.Need-shared-slice-read-if3
+shared-slice-read-if3 c = search needs
+
+returns-3 : tie.Need-returns-3
+returns-3 c =
+    let at-if1 = c .before .before .before .before in
+    let start = at-if1 .before .before .before in
+    rw (eq-eqb _ _ (at-if1 .if1 .left), le-leb 1 (getD (start .args .body .now) 1 0) (omega arith), lt-leb (getD (start .args .body .now) 1 0) 64 (omega arith))
+
+number-at-requires : tie.Need-number-at-requires
+number-at-requires c κs = search needs
+
+returns-4 : tie.Need-returns-4
+returns-4 c =
+    let at-if1 = c .before .before .before .before .before in
+    let at-shared-slice-known = at-if1 .before .before in
+    let start = at-shared-slice-known .before in
+    let byte = at-shared-slice-known .shared-slice-known .given in
+    let arrival : number (start .args .body .now) 2 ≤ 65535 = omega (arith, byte 2, byte 3) in
+    let deadline : number (start .args .body .now) 4 ≤ 65535 = omega (arith, byte 4, byte 5) in
+    rw (
+      c .number-at .ensures,
+      eq-eqb _ _ (at-if1 .if1 .left),
+      le-leb 1 (getD (start .args .body .now) 1 0) (omega arith),
+      le-leb (getD (start .args .body .now) 1 0) 64 (omega arith),
+      le-leb (number (start .args .body .now) 2) 65535 arrival,
+      le-leb (number (start .args .body .now) 4) 65535 deadline,
+    )
+
+pub block-in-range-spec : {M : Type 1} → statement M
+block-in-range-spec = tie.close (tie.spec shared-slice-read-if1 returns shared-slice-read-if2 returns-2 shared-slice-read-if3 returns-3 number-at-requires returns-4)
