@@ -177,7 +177,7 @@ module _ (P : Plan) (S : State) (i : ℕ) (ready : Ready P S i) where
             by g l (yes e) =
                 rw (
                   e,
-                  at-put G (gate N j) (h (gate N j) (getD x (gate N j) 0 + w)) (ready .fresh .room (gate N j) gate-in),
+                  at-put G (gate N j) (h (gate N j) (getD x (gate N j) 0 + w)) (added .low) (ready .fresh .room (gate N j) gate-in),
                   getD-set-same x (gate N j) (getD x (gate N j) 0 + w) 0 (omega (arith, gate-in, ready .fresh .long)),
                 )
             by g l (no d) =

@@ -12,9 +12,8 @@ pub record State : Type 0 where
   pub gates : Stored
   pub nodes : Stored
 
-abbrev pub state : List ℕ → List ℕ → List ℕ → List ℕ → List ℕ → List ℕ → List ℕ → State
-state x gate-widths gate-gains gate-ranks widths gains ranks =
-    record { increases = x; gates = stored gate-widths gate-gains gate-ranks; nodes = stored widths gains ranks }
+abbrev pub state : List ℕ → List ℕ → List ℕ → List ℕ → List ℕ → State
+state x gate-widths gate-keys widths keys = record { increases = x; gates = stored gate-widths gate-keys; nodes = stored widths keys }
 
 -- every gate has an increase, and its stored head is the one that it has with that increase
 pub record Fresh (P : Plan) (S : State) : Type 0 where

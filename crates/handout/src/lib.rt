@@ -2,13 +2,14 @@
 // Public for `sizing` alone.
 use heads::below::renew_up;
 use heads::gate::gate_give_out;
-use heads::store::GateGains;
-use heads::store::NodeGains;
+use heads::store::GateKeys;
+use heads::store::NodeKeys;
 use heads::store::index;
 use heads::way::descend;
 use model::limits::GateNumbers;
 use model::limits::StepNumbers;
 use planting::NodeNumbers;
+use ties::gain_in;
 ghost use Prim.Native.Nat.{_<_};
 ghost use Rattle.heads.specs.Plan.{plan, nodes-in, heads-in, kind, parent, StepsLent};
 ghost use Rattle.handout.specs.State.{state, Ready, Fitting, GivenOut};
@@ -29,18 +30,16 @@ pub fn series_give_out(
     inputs: &GateNumbers,
     increases: &mut [u32],
     gate_widths: &mut GateNumbers,
-    gate_gains: &mut GateGains,
-    gate_ranks: &mut GateNumbers,
+    gate_keys: &mut GateKeys,
     widths: &mut NodeNumbers,
-    gains: &mut NodeGains,
-    ranks: &mut NodeNumbers,
+    keys: &mut NodeKeys,
 )
-    requires { ⌜ Ready (plan n (now kinds) (now lefts) (now gates) (now rights) (now parents) (heads-in n (now counts) (now «step_widths») (now drops) (now inputs))) (state (now increases) (now «gate_widths») (now «gate_gains») (now «gate_ranks») (now widths) (now gains) (now ranks)) i ⌝ }
+    requires { ⌜ Ready (plan n (now kinds) (now lefts) (now gates) (now rights) (now parents) (heads-in n (now counts) (now «step_widths») (now drops) (now inputs))) (state (now increases) (now «gate_widths») (now «gate_keys») (now widths) (now keys)) i ⌝ }
     requires { ⌜ StepsLent n (now counts) (now «step_widths») (now drops) (now inputs) ⌝ }
-    requires { ⌜ Fitting (state (now increases) (now «gate_widths») (now «gate_gains») (now «gate_ranks») (now widths) (now gains) (now ranks)) i w ⌝ }
-    ensures { λ r. ⌜ GivenOut (plan n (now (kinds .entry)) (now (lefts .entry)) (now (gates .entry)) (now (rights .entry)) (now (parents .entry)) (heads-in n (now (counts .entry)) (now («step_widths» .entry)) (now (drops .entry)) (now (inputs .entry)))) (state (now (increases .entry)) (now («gate_widths» .entry)) (now («gate_gains» .entry)) (now («gate_ranks» .entry)) (now (widths .entry)) (now (gains .entry)) (now (ranks .entry))) (state (now (increases .exit)) (now («gate_widths» .exit)) (now («gate_gains» .exit)) (now («gate_ranks» .exit)) (now (widths .exit)) (now (gains .exit)) (now (ranks .exit))) i w (parent (now (parents .entry)) i) ⌝ }
+    requires { ⌜ Fitting (state (now increases) (now «gate_widths») (now «gate_keys») (now widths) (now keys)) i w ⌝ }
+    ensures { λ r. ⌜ GivenOut (plan n (now (kinds .entry)) (now (lefts .entry)) (now (gates .entry)) (now (rights .entry)) (now (parents .entry)) (heads-in n (now (counts .entry)) (now («step_widths» .entry)) (now (drops .entry)) (now (inputs .entry)))) (state (now (increases .entry)) (now («gate_widths» .entry)) (now («gate_keys» .entry)) (now (widths .entry)) (now (keys .entry))) (state (now (increases .exit)) (now («gate_widths» .exit)) (now («gate_keys» .exit)) (now (widths .exit)) (now (keys .exit))) i w (parent (now (parents .entry)) i) ⌝ }
 {
-    if gains[i] == 0 {
+    if gain_in(keys[i]) == 0 {
         return;
     }
     let j = descend(
@@ -50,11 +49,9 @@ pub fn series_give_out(
         gates,
         rights,
         &*gate_widths,
-        &*gate_gains,
-        &*gate_ranks,
+        &*gate_keys,
         &*widths,
-        &*gains,
-        &*ranks,
+        &*keys,
     );
     if kinds[j] == 1 {
         gate_give_out(
@@ -67,8 +64,7 @@ pub fn series_give_out(
             inputs,
             increases,
             gate_widths,
-            gate_gains,
-            gate_ranks,
+            gate_keys,
         );
         renew_up(
             j,
@@ -79,11 +75,9 @@ pub fn series_give_out(
             rights,
             parents,
             &*gate_widths,
-            &*gate_gains,
-            &*gate_ranks,
+            &*gate_keys,
             widths,
-            gains,
-            ranks,
+            keys,
         );
         return;
     }
@@ -102,11 +96,9 @@ pub fn series_give_out(
         inputs,
         increases,
         gate_widths,
-        gate_gains,
-        gate_ranks,
+        gate_keys,
         widths,
-        gains,
-        ranks,
+        keys,
     );
     renew_up(
         j,
@@ -117,11 +109,9 @@ pub fn series_give_out(
         rights,
         parents,
         &*gate_widths,
-        &*gate_gains,
-        &*gate_ranks,
+        &*gate_keys,
         widths,
-        gains,
-        ranks,
+        keys,
     );
 }
 
@@ -141,21 +131,19 @@ pub fn parallel_give_out(
     inputs: &GateNumbers,
     increases: &mut [u32],
     gate_widths: &mut GateNumbers,
-    gate_gains: &mut GateGains,
-    gate_ranks: &mut GateNumbers,
+    gate_keys: &mut GateKeys,
     widths: &mut NodeNumbers,
-    gains: &mut NodeGains,
-    ranks: &mut NodeNumbers,
+    keys: &mut NodeKeys,
 )
     requires { ⌜ 1 < kind (nodes-in (now kinds) (now lefts) (now gates) (now rights)) i ⌝ }
-    requires { ⌜ Ready (plan n (now kinds) (now lefts) (now gates) (now rights) (now parents) (heads-in n (now counts) (now «step_widths») (now drops) (now inputs))) (state (now increases) (now «gate_widths») (now «gate_gains») (now «gate_ranks») (now widths) (now gains) (now ranks)) i ⌝ }
+    requires { ⌜ Ready (plan n (now kinds) (now lefts) (now gates) (now rights) (now parents) (heads-in n (now counts) (now «step_widths») (now drops) (now inputs))) (state (now increases) (now «gate_widths») (now «gate_keys») (now widths) (now keys)) i ⌝ }
     requires { ⌜ StepsLent n (now counts) (now «step_widths») (now drops) (now inputs) ⌝ }
-    requires { ⌜ Fitting (state (now increases) (now «gate_widths») (now «gate_gains») (now «gate_ranks») (now widths) (now gains) (now ranks)) i w ⌝ }
-    ensures { λ r. ⌜ GivenOut (plan n (now (kinds .entry)) (now (lefts .entry)) (now (gates .entry)) (now (rights .entry)) (now (parents .entry)) (heads-in n (now (counts .entry)) (now («step_widths» .entry)) (now (drops .entry)) (now (inputs .entry)))) (state (now (increases .entry)) (now («gate_widths» .entry)) (now («gate_gains» .entry)) (now («gate_ranks» .entry)) (now (widths .entry)) (now (gains .entry)) (now (ranks .entry))) (state (now (increases .exit)) (now («gate_widths» .exit)) (now («gate_gains» .exit)) (now («gate_ranks» .exit)) (now (widths .exit)) (now (gains .exit)) (now (ranks .exit))) i w i ⌝ }
+    requires { ⌜ Fitting (state (now increases) (now «gate_widths») (now «gate_keys») (now widths) (now keys)) i w ⌝ }
+    ensures { λ r. ⌜ GivenOut (plan n (now (kinds .entry)) (now (lefts .entry)) (now (gates .entry)) (now (rights .entry)) (now (parents .entry)) (heads-in n (now (counts .entry)) (now («step_widths» .entry)) (now (drops .entry)) (now (inputs .entry)))) (state (now (increases .entry)) (now («gate_widths» .entry)) (now («gate_keys» .entry)) (now (widths .entry)) (now (keys .entry))) (state (now (increases .exit)) (now («gate_widths» .exit)) (now («gate_keys» .exit)) (now (widths .exit)) (now (keys .exit))) i w i ⌝ }
 {
     let left = index(lefts[i]);
     let right = index(rights[i]);
-    if gains[left] == 0 {
+    if gain_in(keys[left]) == 0 {
         series_give_out(
             right,
             w,
@@ -171,11 +159,9 @@ pub fn parallel_give_out(
             inputs,
             increases,
             gate_widths,
-            gate_gains,
-            gate_ranks,
+            gate_keys,
             widths,
-            gains,
-            ranks,
+            keys,
         );
         return;
     }
@@ -194,13 +180,11 @@ pub fn parallel_give_out(
         inputs,
         increases,
         gate_widths,
-        gate_gains,
-        gate_ranks,
+        gate_keys,
         widths,
-        gains,
-        ranks,
+        keys,
     );
-    if gains[right] == 0 {
+    if gain_in(keys[right]) == 0 {
         return;
     }
     series_give_out(
@@ -218,10 +202,8 @@ pub fn parallel_give_out(
         inputs,
         increases,
         gate_widths,
-        gate_gains,
-        gate_ranks,
+        gate_keys,
         widths,
-        gains,
-        ranks,
+        keys,
     );
 }

@@ -29,7 +29,7 @@ module _ {N : Nodes} {G H : Stored} {k : ℕ} (m : Made N G H k) where
   series-made s el eg er ea eb ec e = e ∙ rw (ea, eb, ec, el, eg, er, s)
 
   module _ {l r : ℕ} {a c : Head} (not-wire : kind N k ≢ 0) (not-series : kind N k ≢ 1) (el : l ≡ left N k) (er : r ≡ right N k) (ea : a ≡ head-at H l) (ec : c ≡ head-at H r) where
-    pub sum-made : a .gain + c .gain < 2 ^ 64
+    pub sum-made : a .gain + c .gain < 2 ^ 56
     sum-made = rw (ea, ec, el, er) (m .sum-fits (omega arith))
 
     pub parallel-made : {u : Head} → u ≡ beside a c → u ≡ head-below N G H k

@@ -12,6 +12,7 @@ use Rattle.model.specs.Limits.{max-steps}
 use Rattle.model.specs.Block.{Step}
 use Rattle.model.specs.Gain.{drop-of}
 use Rattle.model.specs.Arrays.{step-at}
+use Rattle.ties.specs.Code.{ranks}
 use Rattle.optimum.specs.Head.{Head, no-head, rank}
 use Rattle.optimum.specs.Gates.{room}
 use Rattle.heads.specs.Plan.{step-head, heads-in}
@@ -114,5 +115,5 @@ tick-some r a width drop d = rw (ne-eqb (drop * a) 0 d)
 
 -- an increase and the head that goes with it, stored
 pub gate-added : (heads : ℕ → ℕ → Head) (x : List ℕ) (G : Stored) (g w : ℕ) {at : ℕ} {G′ : Stored} {a : Head} → at ≡ g → a ≡ heads g (getD x at 0 + w)
-    → G′ ≡ put G at a → Added heads x (set x at (getD x at 0 + w)) G G′ g w
-gate-added heads x G g w t e f = record { increases = rw t; written = f ∙ rw (e, t) }
+    → a .rank < ranks → G′ ≡ put G at a → Added heads x (set x at (getD x at 0 + w)) G G′ g w
+gate-added heads x G g w t e l f = record { increases = rw t; written = f ∙ rw (e, t); low = rw (e, t) at l }

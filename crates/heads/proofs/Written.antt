@@ -5,34 +5,46 @@ use mathlib.Core.Logic.{_≢_}
 use mathlib.Core.List.{List}
 use Prim.Native.Nat.{ℕ, zero, suc, _<_}
 use native.Mathlib.Omega.{arith}
-use lib.ListN.{length-set}
+use lib.ListN.{set, length-set}
 use lib.Seq.{getD-set-same, getD-set-other}
 use Rattle.parts.specs.Nodes.{Nodes}
-use Rattle.optimum.specs.Head.{Head}
+use Rattle.optimum.specs.Head.{Head, Item, item}
+use Rattle.optimum.proofs.Order.{by-turn, by-sides}
+use Rattle.ties.specs.Code.{ranks, of-key, key-of}
+use Rattle.ties.proofs.Keys.{key-back, head-back, rank-below}
 use Rattle.heads.specs.Plan.{node-count, kind, left, gate, right, parent, Shaped}
-use Rattle.heads.specs.Stored.{Stored, Room, Local, Keeps, Lent, head-at, put, made, head-below}
+use Rattle.heads.specs.Stored.{Stored, Room, Local, Keeps, Lent, stored, head-at, put, made, head-below}
 
-pub at-put : (H : Stored) (i : ℕ) (a : Head) → Room H i → head-at (put H i a) i ≡ a
-at-put H i a r =
-    let w = getD-set-same (H .widths) i (a .width) 0 (r .in-widths) in
-    let g = getD-set-same (H .gains) i (a .gain) 0 (r .in-gains) in
-    let k = getD-set-same (H .ranks) i (a .rank) 0 (r .in-ranks) in
-    λ t. record { width = w t; gain = g t; rank = k t }
+-- the head of a key, written as its width and the key
+pub key-put : (widths keys : List ℕ) (i w k : ℕ) → stored (set widths i w) (set keys i k) ≡ put (stored widths keys) i (of-key w k)
+key-put widths keys i w k = ap (λ (x : ℕ). stored (set widths i w) (set keys i x)) (sym (key-back w k))
+
+pub at-put : (H : Stored) (i : ℕ) (a : Head) → a .rank < ranks → Room H i → head-at (put H i a) i ≡ a
+at-put H i a l r =
+    rw (getD-set-same (H .widths) i (a .width) 0 (r .in-widths), getD-set-same (H .keys) i (key-of a) 0 (r .in-keys)) (head-back a l)
 
 pub beside-put : (H : Stored) (i k : ℕ) (a : Head) → k ≢ i → head-at (put H i a) k ≡ head-at H k
 beside-put H i k a d =
-    let w = getD-set-other (H .widths) i k (a .width) 0 d in
-    let g = getD-set-other (H .gains) i k (a .gain) 0 d in
-    let r = getD-set-other (H .ranks) i k (a .rank) 0 d in
-    λ t. record { width = w t; gain = g t; rank = r t }
+    rw (getD-set-other (H .widths) i k (a .width) 0 d, getD-set-other (H .keys) i k (key-of a) 0 d)
 
 pub room-put : (H : Stored) (i k : ℕ) (a : Head) → Room H k → Room (put H i a) k
 room-put H i k a r =
     record {
       in-widths = omega (arith, r .in-widths, length-set (H .widths) i (a .width));
-      in-gains = omega (arith, r .in-gains, length-set (H .gains) i (a .gain));
-      in-ranks = omega (arith, r .in-ranks, length-set (H .ranks) i (a .rank));
+      in-keys = omega (arith, r .in-keys, length-set (H .keys) i (key-of a));
     }
+
+-- what is made of heads whose ranks fit a key has a rank that fits a key
+made-low : (t : ℕ) (a b c : Head) → a .rank < ranks → b .rank < ranks → c .rank < ranks → made t a b c .rank < ranks
+made-low zero a b c la lb lc = omega arith
+made-low (suc zero) a b c la lb lc =
+    by-turn a b c (λ (i : Item). item i a b c .rank < ranks) (λ ab ac. la) (λ ba bc. lb) (λ ca cb. lc)
+made-low (suc (suc t)) a b c la lb lc =
+    by-sides a c (λ (r : Head). r .rank < ranks) (λ z. lc) (λ p z. la) (λ p q. omega arith)
+
+-- so the head that stored heads make can be stored
+below-low : (N : Nodes) (G H : Stored) (k : ℕ) → head-below N G H k .rank < ranks
+below-low N G H k = made-low (kind N k) _ _ _ (rank-below _) (rank-below _) (rank-below _)
 
 -- what is made of equal heads is equal; a wire looks at none, a parallel node not at the gate's
 same-made : (t : ℕ) (a b c a′ b′ c′ : Head) → (0 < t → a′ ≡ a) → (t ≡ 1 → b′ ≡ b) → (0 < t → c′ ≡ c) → made t a′ b′ c′ ≡ made t a b c
@@ -54,7 +66,7 @@ module _ (N : Nodes) (parents : List ℕ) (shaped : Shaped N parents) where
   pub local-renewed : (G H : Stored) (i : ℕ) → i < node-count N → Room H i → Local N G (put H i (head-below N G H i)) i
   local-renewed G H i l r =
       record {
-        is = at-put H i _ r
+        is = at-put H i _ (below-low N G H i) r
             ∙ sym (same-made (kind N i) _ _ _ _ _ _
             (λ p. beside-put H i (left N i) _ (λ e. let u = shaped .left-below i l p in omega arith))
             (λ p. refl)

@@ -4,13 +4,15 @@ use mathlib.Core.List.{List}
 use Prim.Native.Nat.{ℕ, _+_, _<_}
 use lib.ListN.{getD}
 use Rattle.optimum.specs.Head.{Head}
+use Rattle.ties.specs.Code.{ranks}
 use Rattle.optimum.specs.Increases.{add}
 use Rattle.heads.specs.Stored.{Stored, head-at, put}
 
--- w ticks more for gate g, and its head made right again
+-- w ticks more for gate g, and its head, whose rank fits a key, made right again
 pub record Added (heads : ℕ → ℕ → Head) (x x′ : List ℕ) (G G′ : Stored) (g w : ℕ) : Type 0 where
   pub increases : x′ ≡ add x g w
   pub written : G′ ≡ put G g (heads g (getD x g 0 + w))
+  pub low : heads g (getD x g 0 + w) .rank < ranks
 
 -- n gates without increase, and their heads
 pub record Unslowed (heads : ℕ → ℕ → Head) (n : ℕ) (x : List ℕ) (G : Stored) : Type 0 where

@@ -5,30 +5,29 @@ use mathlib.Core.List.{List}
 use Prim.Native.Nat.{ℕ, zero, suc, _+_, _^_, _≤_, _<_}
 use lib.ListN.{length, getD, set}
 use Rattle.parts.specs.Nodes.{Nodes}
+use Rattle.ties.specs.Code.{of-key, key-of}
 use Rattle.optimum.specs.Head.{Head, no-head, best-of, beside, Item, turn, item}
 use Rattle.heads.specs.Plan.{node-count, kind, left, gate, right, parent, most-gain, Shaped}
 
 pub record Stored : Type 0 where
   pub widths : List ℕ
-  pub gains : List ℕ
-  pub ranks : List ℕ
+  pub keys : List ℕ
 
-abbrev pub stored : List ℕ → List ℕ → List ℕ → Stored
-stored widths gains ranks = record { widths = widths; gains = gains; ranks = ranks }
+abbrev pub stored : List ℕ → List ℕ → Stored
+stored widths keys = record { widths = widths; keys = keys }
 
 -- the head at place k
 abbrev pub head-at : Stored → ℕ → Head
-head-at H k = record { width = getD (H .widths) k 0; gain = getD (H .gains) k 0; rank = getD (H .ranks) k 0 }
+head-at H k = of-key (getD (H .widths) k 0) (getD (H .keys) k 0)
 
 -- the head a at place k
 abbrev pub put : Stored → ℕ → Head → Stored
-put H k a = stored (set (H .widths) k (a .width)) (set (H .gains) k (a .gain)) (set (H .ranks) k (a .rank))
+put H k a = stored (set (H .widths) k (a .width)) (set (H .keys) k (key-of a))
 
--- place k is there in all three arrays
+-- place k is there in both arrays
 pub record Room (H : Stored) (k : ℕ) : Type 0 where
   pub in-widths : k < length (H .widths)
-  pub in-gains : k < length (H .gains)
-  pub in-ranks : k < length (H .ranks)
+  pub in-keys : k < length (H .keys)
 
 -- the head of a node of a kind with these heads at its left, its gate and its right
 abbrev pub made : ℕ → Head → Head → Head → Head
@@ -50,7 +49,7 @@ pub record Made (N : Nodes) (G H : Stored) (k : ℕ) : Type 0 where
   pub left-room : 0 < kind N k → Room H (left N k)
   pub gate-room : kind N k ≡ 1 → Room G (gate N k)
   pub right-room : 0 < kind N k → Room H (right N k)
-  pub sum-fits : 1 < kind N k → head-at H (left N k) .gain + head-at H (right N k) .gain < 2 ^ 64
+  pub sum-fits : 1 < kind N k → head-at H (left N k) .gain + head-at H (right N k) .gain < 2 ^ 56
 
 -- The head stored for node k is what those just below it make.
 pub record Local (N : Nodes) (G H : Stored) (k : ℕ) : Type 0 where

@@ -1,6 +1,6 @@
 // The head of a node made from those just below it.
-use crate::store::GateGains;
-use crate::store::NodeGains;
+use crate::store::GateKeys;
+use crate::store::NodeKeys;
 use crate::store::head_at;
 use crate::store::index;
 use crate::store::write_head;
@@ -9,6 +9,7 @@ use planting::NodeNumbers;
 use ties::Head;
 use ties::beside;
 use ties::best_of;
+use ties::none;
 ghost use mathlib.Core.Path.{_≡_};
 ghost use Rattle.ties.specs.Code.{head-of};
 ghost use Rattle.heads.specs.Plan.{nodes-in};
@@ -22,26 +23,20 @@ fn head_below(
     gates: &[u32],
     rights: &[u32],
     gate_widths: &[u32],
-    gate_gains: &[u64],
-    gate_ranks: &[u32],
+    gate_keys: &[u64],
     widths: &[u32],
-    gains: &[u64],
-    ranks: &[u32],
+    keys: &[u64],
 ) -> Head
-    requires { ⌜ Made (nodes-in (now kinds) (now lefts) (now gates) (now rights)) (stored (now «gate_widths») (now «gate_gains») (now «gate_ranks»)) (stored (now widths) (now gains) (now ranks)) i ⌝ }
-    ensures { λ r. ⌜ head-of r ≡ head-below (nodes-in (now (kinds .entry)) (now (lefts .entry)) (now (gates .entry)) (now (rights .entry))) (stored (now («gate_widths» .entry)) (now («gate_gains» .entry)) (now («gate_ranks» .entry))) (stored (now (widths .entry)) (now (gains .entry)) (now (ranks .entry))) i ⌝ }
+    requires { ⌜ Made (nodes-in (now kinds) (now lefts) (now gates) (now rights)) (stored (now «gate_widths») (now «gate_keys»)) (stored (now widths) (now keys)) i ⌝ }
+    ensures { λ r. ⌜ head-of r ≡ head-below (nodes-in (now (kinds .entry)) (now (lefts .entry)) (now (gates .entry)) (now (rights .entry))) (stored (now («gate_widths» .entry)) (now («gate_keys» .entry))) (stored (now (widths .entry)) (now (keys .entry))) i ⌝ }
 {
     if kinds[i] == 0 {
-        return Head {
-            width: 0,
-            gain: 0,
-            rank: 0,
-        };
+        return none();
     }
-    let left = head_at(widths, gains, ranks, index(lefts[i]));
-    let right = head_at(widths, gains, ranks, index(rights[i]));
+    let left = head_at(widths, keys, index(lefts[i]));
+    let right = head_at(widths, keys, index(rights[i]));
     if kinds[i] == 1 {
-        let gate = head_at(gate_widths, gate_gains, gate_ranks, index(gates[i]));
+        let gate = head_at(gate_widths, gate_keys, index(gates[i]));
         return best_of(left, gate, right);
     }
     beside(left, right)
@@ -55,14 +50,12 @@ pub fn renew(
     gates: &NodeNumbers,
     rights: &NodeNumbers,
     gate_widths: &GateNumbers,
-    gate_gains: &GateGains,
-    gate_ranks: &GateNumbers,
+    gate_keys: &GateKeys,
     widths: &mut NodeNumbers,
-    gains: &mut NodeGains,
-    ranks: &mut NodeNumbers,
+    keys: &mut NodeKeys,
 )
-    requires { ⌜ Made (nodes-in (now kinds) (now lefts) (now gates) (now rights)) (stored (now «gate_widths») (now «gate_gains») (now «gate_ranks»)) (stored (now widths) (now gains) (now ranks)) i ⌝ }
-    ensures { λ r. ⌜ stored (now (widths .exit)) (now (gains .exit)) (now (ranks .exit)) ≡ put (stored (now (widths .entry)) (now (gains .entry)) (now (ranks .entry))) i (head-below (nodes-in (now (kinds .entry)) (now (lefts .entry)) (now (gates .entry)) (now (rights .entry))) (stored (now («gate_widths» .entry)) (now («gate_gains» .entry)) (now («gate_ranks» .entry))) (stored (now (widths .entry)) (now (gains .entry)) (now (ranks .entry))) i) ⌝ }
+    requires { ⌜ Made (nodes-in (now kinds) (now lefts) (now gates) (now rights)) (stored (now «gate_widths») (now «gate_keys»)) (stored (now widths) (now keys)) i ⌝ }
+    ensures { λ r. ⌜ stored (now (widths .exit)) (now (keys .exit)) ≡ put (stored (now (widths .entry)) (now (keys .entry))) i (head-below (nodes-in (now (kinds .entry)) (now (lefts .entry)) (now (gates .entry)) (now (rights .entry))) (stored (now («gate_widths» .entry)) (now («gate_keys» .entry))) (stored (now (widths .entry)) (now (keys .entry))) i) ⌝ }
 {
     let head = head_below(
         i,
@@ -71,13 +64,11 @@ pub fn renew(
         gates,
         rights,
         gate_widths,
-        gate_gains,
-        gate_ranks,
+        gate_keys,
         &*widths,
-        &*gains,
-        &*ranks,
+        &*keys,
     );
-    write_head(widths, gains, ranks, i, head);
+    write_head(widths, keys, i, head);
 }
 
 // Renews the heads from node j along the parents up to node i.
@@ -90,14 +81,12 @@ pub fn renew_up(
     rights: &NodeNumbers,
     parents: &NodeNumbers,
     gate_widths: &GateNumbers,
-    gate_gains: &GateGains,
-    gate_ranks: &GateNumbers,
+    gate_keys: &GateKeys,
     widths: &mut NodeNumbers,
-    gains: &mut NodeGains,
-    ranks: &mut NodeNumbers,
+    keys: &mut NodeKeys,
 )
-    requires { ⌜ Renewable (nodes-in (now kinds) (now lefts) (now gates) (now rights)) (now parents) (stored (now «gate_widths») (now «gate_gains») (now «gate_ranks»)) (stored (now widths) (now gains) (now ranks)) j i ⌝ }
-    ensures { λ r. ⌜ Renewed (nodes-in (now (kinds .entry)) (now (lefts .entry)) (now (gates .entry)) (now (rights .entry))) (now (parents .entry)) (stored (now («gate_widths» .entry)) (now («gate_gains» .entry)) (now («gate_ranks» .entry))) (stored (now (widths .entry)) (now (gains .entry)) (now (ranks .entry))) (stored (now (widths .exit)) (now (gains .exit)) (now (ranks .exit))) j i ⌝ }
+    requires { ⌜ Renewable (nodes-in (now kinds) (now lefts) (now gates) (now rights)) (now parents) (stored (now «gate_widths») (now «gate_keys»)) (stored (now widths) (now keys)) j i ⌝ }
+    ensures { λ r. ⌜ Renewed (nodes-in (now (kinds .entry)) (now (lefts .entry)) (now (gates .entry)) (now (rights .entry))) (now (parents .entry)) (stored (now («gate_widths» .entry)) (now («gate_keys» .entry))) (stored (now (widths .entry)) (now (keys .entry))) (stored (now (widths .exit)) (now (keys .exit))) j i ⌝ }
 {
     let mut k = j;
     while k < i {
@@ -108,11 +97,9 @@ pub fn renew_up(
             gates,
             rights,
             gate_widths,
-            gate_gains,
-            gate_ranks,
+            gate_keys,
             widths,
-            gains,
-            ranks,
+            keys,
         );
         k = index(parents[k]);
     }
@@ -123,10 +110,8 @@ pub fn renew_up(
         gates,
         rights,
         gate_widths,
-        gate_gains,
-        gate_ranks,
+        gate_keys,
         widths,
-        gains,
-        ranks,
+        keys,
     );
 }

@@ -3,12 +3,14 @@ use crate::store::index;
 use crate::store::write_head;
 use model::limits::MAX_STEPS;
 use ties::Head;
+use ties::keyed;
+use ties::none;
 use ties::rank;
 ghost use mathlib.Core.Path.{_≡_};
 ghost use Prim.Native.Nat.{ℕ, _+_, _*_, _^_, _≤_, _<_};
 ghost use lib.ListN.{getD, length};
 ghost use Rattle.model.specs.Limits.{max-steps, max-drop};
-ghost use Rattle.ties.specs.Code.{head-of};
+ghost use Rattle.ties.specs.Code.{ranks, head-of};
 ghost use Rattle.heads.specs.Plan.{most-gates, most-input, heads-in, step-head, StepsLent};
 ghost use Rattle.heads.specs.Stored.{Room, stored};
 ghost use Rattle.heads.specs.GateHeads.{Added};
@@ -16,18 +18,14 @@ ghost use Rattle.heads.specs.GateHeads.{Unslowed};
 
 // The head of a tick with this drop and input activity, `width` ticks before the end of its step.
 fn tick_head(width: u32, drop: u32, input: u32, rank: u32) -> Head
-    requires { ⌜ (drop ≤ max-drop) × (input ≤ most-input) ⌝ }
+    requires { ⌜ (drop ≤ max-drop) × (input ≤ most-input) × (rank < ranks) ⌝ }
     ensures { λ r. ⌜ head-of r ≡ step-head rank input width drop ⌝ }
 {
     let gain = (drop as u64) * (input as u64);
     if gain == 0 {
-        return Head {
-            width: 0,
-            gain: 0,
-            rank: 0,
-        };
+        return none();
     }
-    Head { width, gain, rank }
+    keyed(width, gain, rank as u64)
 }
 
 // The place of step j of gate g.
@@ -63,11 +61,7 @@ pub fn gate_head(
         left -= width;
         j += 1;
     }
-    Head {
-        width: 0,
-        gain: 0,
-        rank: 0,
-    }
+    none()
 }
 
 // Gives w ticks to gate g, and renews its head.
@@ -81,17 +75,16 @@ pub fn gate_give_out(
     inputs: &[u32],
     increases: &mut [u32],
     gate_widths: &mut [u32],
-    gate_gains: &mut [u64],
-    gate_ranks: &mut [u32],
+    gate_keys: &mut [u64],
 )
-    requires { ⌜ (g < n) × StepsLent n (now counts) (now «step_widths») (now drops) (now inputs) × (g < length (now increases)) × (getD (now increases) g 0 + w < 2 ^ 32) × Room (stored (now «gate_widths») (now «gate_gains») (now «gate_ranks»)) g ⌝ }
-    ensures { λ r. ⌜ Added (heads-in n (now (counts .entry)) (now («step_widths» .entry)) (now (drops .entry)) (now (inputs .entry))) (now (increases .entry)) (now (increases .exit)) (stored (now («gate_widths» .entry)) (now («gate_gains» .entry)) (now («gate_ranks» .entry))) (stored (now («gate_widths» .exit)) (now («gate_gains» .exit)) (now («gate_ranks» .exit))) g w ⌝ }
+    requires { ⌜ (g < n) × StepsLent n (now counts) (now «step_widths») (now drops) (now inputs) × (g < length (now increases)) × (getD (now increases) g 0 + w < 2 ^ 32) × Room (stored (now «gate_widths») (now «gate_keys»)) g ⌝ }
+    ensures { λ r. ⌜ Added (heads-in n (now (counts .entry)) (now («step_widths» .entry)) (now (drops .entry)) (now (inputs .entry))) (now (increases .entry)) (now (increases .exit)) (stored (now («gate_widths» .entry)) (now («gate_keys» .entry))) (stored (now («gate_widths» .exit)) (now («gate_keys» .exit))) g w ⌝ }
 {
     let at = index(g);
     let more = increases[at] + w;
     increases[at] = more;
     let head = gate_head(n, g, more, counts, step_widths, drops, inputs);
-    write_head(gate_widths, gate_gains, gate_ranks, at, head);
+    write_head(gate_widths, gate_keys, at, head);
 }
 
 // Puts the increases of n gates to 0, and stores the heads that the gates then have.
@@ -103,20 +96,19 @@ pub fn unslowed_heads(
     inputs: &[u32],
     increases: &mut [u32],
     gate_widths: &mut [u32],
-    gate_gains: &mut [u64],
-    gate_ranks: &mut [u32],
+    gate_keys: &mut [u64],
 )
     requires { ⌜ StepsLent n (now counts) (now «step_widths») (now drops) (now inputs) ⌝ }
     requires { ⌜ n ≤ length (now increases) ⌝ }
-    requires { ⌜ ((g : ℕ) → g < n → Room (stored (now «gate_widths») (now «gate_gains») (now «gate_ranks»)) g) ⌝ }
-    ensures { λ r. ⌜ Unslowed (heads-in n (now (counts .entry)) (now («step_widths» .entry)) (now (drops .entry)) (now (inputs .entry))) n (now (increases .exit)) (stored (now («gate_widths» .exit)) (now («gate_gains» .exit)) (now («gate_ranks» .exit))) ⌝ }
+    requires { ⌜ ((g : ℕ) → g < n → Room (stored (now «gate_widths») (now «gate_keys»)) g) ⌝ }
+    ensures { λ r. ⌜ Unslowed (heads-in n (now (counts .entry)) (now («step_widths» .entry)) (now (drops .entry)) (now (inputs .entry))) n (now (increases .exit)) (stored (now («gate_widths» .exit)) (now («gate_keys» .exit))) ⌝ }
 {
     let mut g: u32 = 0;
     while g < n {
         let at = index(g);
         increases[at] = 0;
         let head = gate_head(n, g, 0, counts, step_widths, drops, inputs);
-        write_head(gate_widths, gate_gains, gate_ranks, at, head);
+        write_head(gate_widths, gate_keys, at, head);
         g += 1;
     }
 }

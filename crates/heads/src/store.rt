@@ -6,11 +6,11 @@ ghost use mathlib.Core.Path.{_≡_};
 ghost use Rattle.ties.specs.Code.{head-of};
 ghost use Rattle.heads.specs.Stored.{Room, stored, head-at, put};
 
-// A gain for each gate.
-pub type GateGains = [u64; MAX_GATES];
+// A key for each gate.
+pub type GateKeys = [u64; MAX_GATES];
 
-// A gain for each node.
-pub type NodeGains = [u64; MAX_NODES];
+// A key for each node.
+pub type NodeKeys = [u64; MAX_NODES];
 
 // A stored number as an index.
 pub fn index(x: u32) -> usize
@@ -20,23 +20,21 @@ pub fn index(x: u32) -> usize
 }
 
 // The head stored at place i.
-pub fn head_at(widths: &[u32], gains: &[u64], ranks: &[u32], i: usize) -> Head
-    requires { ⌜ Room (stored (now widths) (now gains) (now ranks)) i ⌝ }
-    ensures { λ r. ⌜ head-of r ≡ head-at (stored (now (widths .entry)) (now (gains .entry)) (now (ranks .entry))) i ⌝ }
+pub fn head_at(widths: &[u32], keys: &[u64], i: usize) -> Head
+    requires { ⌜ Room (stored (now widths) (now keys)) i ⌝ }
+    ensures { λ r. ⌜ head-of r ≡ head-at (stored (now (widths .entry)) (now (keys .entry))) i ⌝ }
 {
     Head {
+        key: keys[i],
         width: widths[i],
-        gain: gains[i],
-        rank: ranks[i],
     }
 }
 
 // Stores a head at place i.
-pub fn write_head(widths: &mut [u32], gains: &mut [u64], ranks: &mut [u32], i: usize, a: Head)
-    requires { ⌜ Room (stored (now widths) (now gains) (now ranks)) i ⌝ }
-    ensures { λ r. ⌜ stored (now (widths .exit)) (now (gains .exit)) (now (ranks .exit)) ≡ put (stored (now (widths .entry)) (now (gains .entry)) (now (ranks .entry))) i (head-of a) ⌝ }
+pub fn write_head(widths: &mut [u32], keys: &mut [u64], i: usize, a: Head)
+    requires { ⌜ Room (stored (now widths) (now keys)) i ⌝ }
+    ensures { λ r. ⌜ stored (now (widths .exit)) (now (keys .exit)) ≡ put (stored (now (widths .entry)) (now (keys .entry))) i (head-of a) ⌝ }
 {
     widths[i] = a.width;
-    gains[i] = a.gain;
-    ranks[i] = a.rank;
+    keys[i] = a.key;
 }

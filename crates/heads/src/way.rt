@@ -33,23 +33,21 @@ fn next_down(
     gates: &[u32],
     rights: &[u32],
     gate_widths: &[u32],
-    gate_gains: &[u64],
-    gate_ranks: &[u32],
+    gate_keys: &[u64],
     widths: &[u32],
-    gains: &[u64],
-    ranks: &[u32],
+    keys: &[u64],
 ) -> usize
-    requires { ⌜ Made (nodes-in (now kinds) (now lefts) (now gates) (now rights)) (stored (now «gate_widths») (now «gate_gains») (now «gate_ranks»)) (stored (now widths) (now gains) (now ranks)) i ⌝ }
-    ensures { λ r. ⌜ r ≡ next-down (nodes-in (now (kinds .entry)) (now (lefts .entry)) (now (gates .entry)) (now (rights .entry))) (stored (now («gate_widths» .entry)) (now («gate_gains» .entry)) (now («gate_ranks» .entry))) (stored (now (widths .entry)) (now (gains .entry)) (now (ranks .entry))) i ⌝ }
+    requires { ⌜ Made (nodes-in (now kinds) (now lefts) (now gates) (now rights)) (stored (now «gate_widths») (now «gate_keys»)) (stored (now widths) (now keys)) i ⌝ }
+    ensures { λ r. ⌜ r ≡ next-down (nodes-in (now (kinds .entry)) (now (lefts .entry)) (now (gates .entry)) (now (rights .entry))) (stored (now («gate_widths» .entry)) (now («gate_keys» .entry))) (stored (now (widths .entry)) (now (keys .entry))) i ⌝ }
 {
     if kinds[i] != 1 {
         return i;
     }
     let l = index(lefts[i]);
     let r = index(rights[i]);
-    let left = head_at(widths, gains, ranks, l);
-    let gate = head_at(gate_widths, gate_gains, gate_ranks, index(gates[i]));
-    let right = head_at(widths, gains, ranks, r);
+    let left = head_at(widths, keys, l);
+    let gate = head_at(gate_widths, gate_keys, index(gates[i]));
+    let right = head_at(widths, keys, r);
     leading(left, gate, right, l, i, r)
 }
 
@@ -61,14 +59,12 @@ pub fn descend(
     gates: &[u32],
     rights: &[u32],
     gate_widths: &[u32],
-    gate_gains: &[u64],
-    gate_ranks: &[u32],
+    gate_keys: &[u64],
     widths: &[u32],
-    gains: &[u64],
-    ranks: &[u32],
+    keys: &[u64],
 ) -> usize
-    requires { ⌜ Walkable (nodes-in (now kinds) (now lefts) (now gates) (now rights)) (stored (now «gate_widths») (now «gate_gains») (now «gate_ranks»)) (stored (now widths) (now gains) (now ranks)) i ⌝ }
-    ensures { λ r. ⌜ Ended (nodes-in (now (kinds .entry)) (now (lefts .entry)) (now (gates .entry)) (now (rights .entry))) (stored (now («gate_widths» .entry)) (now («gate_gains» .entry)) (now («gate_ranks» .entry))) (stored (now (widths .entry)) (now (gains .entry)) (now (ranks .entry))) i r ⌝ }
+    requires { ⌜ Walkable (nodes-in (now kinds) (now lefts) (now gates) (now rights)) (stored (now «gate_widths») (now «gate_keys»)) (stored (now widths) (now keys)) i ⌝ }
+    ensures { λ r. ⌜ Ended (nodes-in (now (kinds .entry)) (now (lefts .entry)) (now (gates .entry)) (now (rights .entry))) (stored (now («gate_widths» .entry)) (now («gate_keys» .entry))) (stored (now (widths .entry)) (now (keys .entry))) i r ⌝ }
 {
     let mut j = i;
     let mut next = next_down(
@@ -78,11 +74,9 @@ pub fn descend(
         gates,
         rights,
         gate_widths,
-        gate_gains,
-        gate_ranks,
+        gate_keys,
         widths,
-        gains,
-        ranks,
+        keys,
     );
     while next < j {
         j = next;
@@ -93,11 +87,9 @@ pub fn descend(
             gates,
             rights,
             gate_widths,
-            gate_gains,
-            gate_ranks,
+            gate_keys,
             widths,
-            gains,
-            ranks,
+            keys,
         );
     }
     j

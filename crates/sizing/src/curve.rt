@@ -1,11 +1,12 @@
 // Ticks spent at a node run by run, and the curve of the runs: neighbours of one gain are joined. With ticks for all steps it is the curve of the node.
 use crate::ticks::next_run;
 use handout::series_give_out;
-use heads::store::GateGains;
-use heads::store::NodeGains;
+use heads::store::GateKeys;
+use heads::store::NodeKeys;
 use model::limits::GateNumbers;
 use model::limits::StepNumbers;
 use planting::NodeNumbers;
+use ties::gain_in;
 ghost use mathlib.Core.Path.{_≡_};
 ghost use Prim.Native.Nat.{ℕ, _+_, _-_, _^_, _≤_, _<_};
 ghost use lib.ListN.{length, getD};
@@ -67,15 +68,13 @@ pub fn spend_ticks(
     inputs: &GateNumbers,
     increases: &mut [u32],
     gate_widths: &mut GateNumbers,
-    gate_gains: &mut GateGains,
-    gate_ranks: &mut GateNumbers,
+    gate_keys: &mut GateKeys,
     widths: &mut NodeNumbers,
-    gains: &mut NodeGains,
-    ranks: &mut NodeNumbers,
+    keys: &mut NodeKeys,
     pair_widths: &mut [u32],
     pair_gains: &mut [u32],
 ) -> usize
-    requires { ⌜ Curvable (plan n (now kinds) (now lefts) (now gates) (now rights) (now parents) (heads-in n (now counts) (now «step_widths») (now drops) (now inputs))) (state (now increases) (now «gate_widths») (now «gate_gains») (now «gate_ranks») (now widths) (now gains) (now ranks)) i steps ⌝ }
+    requires { ⌜ Curvable (plan n (now kinds) (now lefts) (now gates) (now rights) (now parents) (heads-in n (now counts) (now «step_widths») (now drops) (now inputs))) (state (now increases) (now «gate_widths») (now «gate_keys») (now widths) (now keys)) i steps ⌝ }
     requires { ⌜ StepsLent n (now counts) (now «step_widths») (now drops) (now inputs) ⌝ }
     requires { ⌜ (steps ≤ length (now «pair_widths»)) × (steps ≤ length (now «pair_gains»)) ⌝ }
     ensures { λ r. ⌜ Spent (plan n (now (kinds .entry)) (now (lefts .entry)) (now (gates .entry)) (now (rights .entry)) (now (parents .entry)) (heads-in n (now (counts .entry)) (now («step_widths» .entry)) (now (drops .entry)) (now (inputs .entry)))) (now (increases .entry)) (now (increases .exit)) i ticks steps r (now («pair_widths» .entry)) (now («pair_gains» .entry)) (now («pair_widths» .exit)) (now («pair_gains» .exit)) ⌝ }
@@ -84,7 +83,7 @@ pub fn spend_ticks(
     let mut count: usize = 0;
     let mut k: usize = 0;
     while k < steps {
-        let gain = gains[i];
+        let gain = gain_in(keys[i]);
         let run = next_run(left, gain, widths[i]);
         if run == 0 {
             return count;
@@ -105,11 +104,9 @@ pub fn spend_ticks(
             inputs,
             increases,
             gate_widths,
-            gate_gains,
-            gate_ranks,
+            gate_keys,
             widths,
-            gains,
-            ranks,
+            keys,
         );
         left -= run;
         k += 1;

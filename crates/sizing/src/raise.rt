@@ -1,8 +1,8 @@
 // The raised start: inside out, each side of a parallel node gets the ticks that it lacks to the other.
 use crate::ticks::ticks_out;
 use heads::below::renew;
-use heads::store::GateGains;
-use heads::store::NodeGains;
+use heads::store::GateKeys;
+use heads::store::NodeKeys;
 use heads::store::index;
 use model::limits::GateNumbers;
 use model::limits::StepNumbers;
@@ -37,16 +37,14 @@ fn raise_sides(
     lengths: &[u32],
     increases: &mut [u32],
     gate_widths: &mut GateNumbers,
-    gate_gains: &mut GateGains,
-    gate_ranks: &mut GateNumbers,
+    gate_keys: &mut GateKeys,
     widths: &mut NodeNumbers,
-    gains: &mut NodeGains,
-    ranks: &mut NodeNumbers,
+    keys: &mut NodeKeys,
 )
-    requires { ⌜ Standing (plan n (now kinds) (now lefts) (now gates) (now rights) (now parents) (heads-in n (now counts) (now «step_widths») (now drops) (now inputs))) (state (now increases) (now «gate_widths») (now «gate_gains») (now «gate_ranks») (now widths) (now gains) (now ranks)) i ⌝ }
+    requires { ⌜ Standing (plan n (now kinds) (now lefts) (now gates) (now rights) (now parents) (heads-in n (now counts) (now «step_widths») (now drops) (now inputs))) (state (now increases) (now «gate_widths») (now «gate_keys») (now widths) (now keys)) i ⌝ }
     requires { ⌜ StepsLent n (now counts) (now «step_widths») (now drops) (now inputs) ⌝ }
     requires { ⌜ (i < length (now kinds)) × (length (now kinds) ≤ length (now lengths)) ⌝ }
-    ensures { λ r. ⌜ Standing (plan n (now (kinds .entry)) (now (lefts .entry)) (now (gates .entry)) (now (rights .entry)) (now (parents .entry)) (heads-in n (now (counts .entry)) (now («step_widths» .entry)) (now (drops .entry)) (now (inputs .entry)))) (state (now (increases .exit)) (now («gate_widths» .exit)) (now («gate_gains» .exit)) (now («gate_ranks» .exit)) (now (widths .exit)) (now (gains .exit)) (now (ranks .exit))) i ⌝ }
+    ensures { λ r. ⌜ Standing (plan n (now (kinds .entry)) (now (lefts .entry)) (now (gates .entry)) (now (rights .entry)) (now (parents .entry)) (heads-in n (now (counts .entry)) (now («step_widths» .entry)) (now (drops .entry)) (now (inputs .entry)))) (state (now (increases .exit)) (now («gate_widths» .exit)) (now («gate_keys» .exit)) (now (widths .exit)) (now (keys .exit))) i ⌝ }
     ensures { λ r. ⌜ Levelled (plan n (now (kinds .entry)) (now (lefts .entry)) (now (gates .entry)) (now (rights .entry)) (now (parents .entry)) (heads-in n (now (counts .entry)) (now («step_widths» .entry)) (now (drops .entry)) (now (inputs .entry)))) (now (lengths .entry)) (now (increases .entry)) (now (increases .exit)) i ⌝ }
 {
     if kinds[i] < 2 {
@@ -71,11 +69,9 @@ fn raise_sides(
         inputs,
         increases,
         gate_widths,
-        gate_gains,
-        gate_ranks,
+        gate_keys,
         widths,
-        gains,
-        ranks,
+        keys,
     );
     ticks_out(
         right,
@@ -92,11 +88,9 @@ fn raise_sides(
         inputs,
         increases,
         gate_widths,
-        gate_gains,
-        gate_ranks,
+        gate_keys,
         widths,
-        gains,
-        ranks,
+        keys,
     );
 }
 
@@ -115,16 +109,14 @@ pub fn raise_and_fill(
     lengths: &[u32],
     increases: &mut [u32],
     gate_widths: &mut GateNumbers,
-    gate_gains: &mut GateGains,
-    gate_ranks: &mut GateNumbers,
+    gate_keys: &mut GateKeys,
     widths: &mut NodeNumbers,
-    gains: &mut NodeGains,
-    ranks: &mut NodeNumbers,
+    keys: &mut NodeKeys,
 )
-    requires { ⌜ Raisable (plan n (now kinds) (now lefts) (now gates) (now rights) (now parents) (heads-in n (now counts) (now «step_widths») (now drops) (now inputs))) (state (now increases) (now «gate_widths») (now «gate_gains») (now «gate_ranks») (now widths) (now gains) (now ranks)) ⌝ }
+    requires { ⌜ Raisable (plan n (now kinds) (now lefts) (now gates) (now rights) (now parents) (heads-in n (now counts) (now «step_widths») (now drops) (now inputs))) (state (now increases) (now «gate_widths») (now «gate_keys») (now widths) (now keys)) ⌝ }
     requires { ⌜ StepsLent n (now counts) (now «step_widths») (now drops) (now inputs) ⌝ }
     requires { ⌜ length (now kinds) ≤ length (now lengths) ⌝ }
-    ensures { λ r. ⌜ ((d : ℕ → ℕ) → Lengths (nodes-in (now (kinds .entry)) (now (lefts .entry)) (now (gates .entry)) (now (rights .entry))) d (now (lengths .entry)) (length (now (kinds .entry))) → Raised (plan n (now (kinds .entry)) (now (lefts .entry)) (now (gates .entry)) (now (rights .entry)) (now (parents .entry)) (heads-in n (now (counts .entry)) (now («step_widths» .entry)) (now (drops .entry)) (now (inputs .entry)))) d (state (now (increases .exit)) (now («gate_widths» .exit)) (now («gate_gains» .exit)) (now («gate_ranks» .exit)) (now (widths .exit)) (now (gains .exit)) (now (ranks .exit)))) ⌝ }
+    ensures { λ r. ⌜ ((d : ℕ → ℕ) → Lengths (nodes-in (now (kinds .entry)) (now (lefts .entry)) (now (gates .entry)) (now (rights .entry))) d (now (lengths .entry)) (length (now (kinds .entry))) → Raised (plan n (now (kinds .entry)) (now (lefts .entry)) (now (gates .entry)) (now (rights .entry)) (now (parents .entry)) (heads-in n (now (counts .entry)) (now («step_widths» .entry)) (now (drops .entry)) (now (inputs .entry)))) d (state (now (increases .exit)) (now («gate_widths» .exit)) (now («gate_keys» .exit)) (now (widths .exit)) (now (keys .exit)))) ⌝ }
 {
     let mut i: usize = 0;
     while i < kinds.len() {
@@ -143,11 +135,9 @@ pub fn raise_and_fill(
             lengths,
             increases,
             gate_widths,
-            gate_gains,
-            gate_ranks,
+            gate_keys,
             widths,
-            gains,
-            ranks,
+            keys,
         );
         renew(
             i,
@@ -156,11 +146,9 @@ pub fn raise_and_fill(
             gates,
             rights,
             &*gate_widths,
-            &*gate_gains,
-            &*gate_ranks,
+            &*gate_keys,
             widths,
-            gains,
-            ranks,
+            keys,
         );
         i += 1;
     }

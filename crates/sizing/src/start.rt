@@ -2,8 +2,8 @@
 use crate::length::part_lengths;
 use crate::raise::raise_and_fill;
 use heads::gate::unslowed_heads;
-use heads::store::GateGains;
-use heads::store::NodeGains;
+use heads::store::GateKeys;
+use heads::store::NodeKeys;
 use model::limits::GateNumbers;
 use model::limits::StepNumbers;
 use planting::NodeNumbers;
@@ -28,16 +28,14 @@ pub fn start(
     lengths: &mut [u32],
     increases: &mut [u32],
     gate_widths: &mut GateNumbers,
-    gate_gains: &mut GateGains,
-    gate_ranks: &mut GateNumbers,
+    gate_keys: &mut GateKeys,
     widths: &mut NodeNumbers,
-    gains: &mut NodeGains,
-    ranks: &mut NodeNumbers,
+    keys: &mut NodeKeys,
 )
-    requires { ⌜ Sizable (plan n (now kinds) (now lefts) (now gates) (now rights) (now parents) (heads-in n (now counts) (now «step_widths») (now drops) (now inputs))) (state (now increases) (now «gate_widths») (now «gate_gains») (now «gate_ranks») (now widths) (now gains) (now ranks)) ⌝ }
+    requires { ⌜ Sizable (plan n (now kinds) (now lefts) (now gates) (now rights) (now parents) (heads-in n (now counts) (now «step_widths») (now drops) (now inputs))) (state (now increases) (now «gate_widths») (now «gate_keys») (now widths) (now keys)) ⌝ }
     requires { ⌜ StepsLent n (now counts) (now «step_widths») (now drops) (now inputs) ⌝ }
     requires { ⌜ Measurable (nodes-in (now kinds) (now lefts) (now gates) (now rights)) (now delays) (now lengths) ⌝ }
-    ensures { λ r. ⌜ Raised (plan n (now (kinds .entry)) (now (lefts .entry)) (now (gates .entry)) (now (rights .entry)) (now (parents .entry)) (heads-in n (now (counts .entry)) (now («step_widths» .entry)) (now (drops .entry)) (now (inputs .entry)))) (delays-in (now (delays .entry))) (state (now (increases .exit)) (now («gate_widths» .exit)) (now («gate_gains» .exit)) (now («gate_ranks» .exit)) (now (widths .exit)) (now (gains .exit)) (now (ranks .exit))) ⌝ }
+    ensures { λ r. ⌜ Raised (plan n (now (kinds .entry)) (now (lefts .entry)) (now (gates .entry)) (now (rights .entry)) (now (parents .entry)) (heads-in n (now (counts .entry)) (now («step_widths» .entry)) (now (drops .entry)) (now (inputs .entry)))) (delays-in (now (delays .entry))) (state (now (increases .exit)) (now («gate_widths» .exit)) (now («gate_keys» .exit)) (now (widths .exit)) (now (keys .exit))) ⌝ }
 {
     unslowed_heads(
         n,
@@ -47,8 +45,7 @@ pub fn start(
         inputs,
         increases,
         gate_widths,
-        gate_gains,
-        gate_ranks,
+        gate_keys,
     );
     part_lengths(kinds, lefts, gates, rights, delays, lengths);
     raise_and_fill(
@@ -65,10 +62,8 @@ pub fn start(
         &*lengths,
         increases,
         gate_widths,
-        gate_gains,
-        gate_ranks,
+        gate_keys,
         widths,
-        gains,
-        ranks,
+        keys,
     );
 }

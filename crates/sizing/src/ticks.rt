@@ -1,10 +1,11 @@
 // Ticks handed out at a node run by run: to raise a branch, or to find the increases after so many ticks.
 use handout::series_give_out;
-use heads::store::GateGains;
-use heads::store::NodeGains;
+use heads::store::GateKeys;
+use heads::store::NodeKeys;
 use model::limits::GateNumbers;
 use model::limits::StepNumbers;
 use planting::NodeNumbers;
+use ties::gain_in;
 ghost use mathlib.Core.Path.{_≡_};
 ghost use Prim.Native.Nat.{_<_};
 ghost use Rattle.heads.specs.Plan.{plan, heads-in, parent, StepsLent};
@@ -37,19 +38,17 @@ pub fn ticks_out(
     inputs: &GateNumbers,
     increases: &mut [u32],
     gate_widths: &mut GateNumbers,
-    gate_gains: &mut GateGains,
-    gate_ranks: &mut GateNumbers,
+    gate_keys: &mut GateKeys,
     widths: &mut NodeNumbers,
-    gains: &mut NodeGains,
-    ranks: &mut NodeNumbers,
+    keys: &mut NodeKeys,
 )
-    requires { ⌜ Ready (plan n (now kinds) (now lefts) (now gates) (now rights) (now parents) (heads-in n (now counts) (now «step_widths») (now drops) (now inputs))) (state (now increases) (now «gate_widths») (now «gate_gains») (now «gate_ranks») (now widths) (now gains) (now ranks)) i ⌝ }
+    requires { ⌜ Ready (plan n (now kinds) (now lefts) (now gates) (now rights) (now parents) (heads-in n (now counts) (now «step_widths») (now drops) (now inputs))) (state (now increases) (now «gate_widths») (now «gate_keys») (now widths) (now keys)) i ⌝ }
     requires { ⌜ StepsLent n (now counts) (now «step_widths») (now drops) (now inputs) ⌝ }
     requires { ⌜ i < parent (now parents) i ⌝ }
-    ensures { λ r. ⌜ TickedOut (plan n (now (kinds .entry)) (now (lefts .entry)) (now (gates .entry)) (now (rights .entry)) (now (parents .entry)) (heads-in n (now (counts .entry)) (now («step_widths» .entry)) (now (drops .entry)) (now (inputs .entry)))) (state (now (increases .entry)) (now («gate_widths» .entry)) (now («gate_gains» .entry)) (now («gate_ranks» .entry)) (now (widths .entry)) (now (gains .entry)) (now (ranks .entry))) (state (now (increases .exit)) (now («gate_widths» .exit)) (now («gate_gains» .exit)) (now («gate_ranks» .exit)) (now (widths .exit)) (now (gains .exit)) (now (ranks .exit))) i ticks ⌝ }
+    ensures { λ r. ⌜ TickedOut (plan n (now (kinds .entry)) (now (lefts .entry)) (now (gates .entry)) (now (rights .entry)) (now (parents .entry)) (heads-in n (now (counts .entry)) (now («step_widths» .entry)) (now (drops .entry)) (now (inputs .entry)))) (state (now (increases .entry)) (now («gate_widths» .entry)) (now («gate_keys» .entry)) (now (widths .entry)) (now (keys .entry))) (state (now (increases .exit)) (now («gate_widths» .exit)) (now («gate_keys» .exit)) (now (widths .exit)) (now (keys .exit))) i ticks ⌝ }
 {
     let mut left = ticks;
-    let mut run = next_run(left, gains[i], widths[i]);
+    let mut run = next_run(left, gain_in(keys[i]), widths[i]);
     while 0 < run {
         series_give_out(
             i,
@@ -66,13 +65,11 @@ pub fn ticks_out(
             inputs,
             increases,
             gate_widths,
-            gate_gains,
-            gate_ranks,
+            gate_keys,
             widths,
-            gains,
-            ranks,
+            keys,
         );
         left -= run;
-        run = next_run(left, gains[i], widths[i]);
+        run = next_run(left, gain_in(keys[i]), widths[i]);
     }
 }

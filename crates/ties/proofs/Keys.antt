@@ -16,8 +16,8 @@ in-ranks : (key : ℕ) → key % ranks < ranks
 in-ranks key = mod-lt key (omega arith)
 
 -- the rank in a key is below the number of ranks
-pub rank-below : (width key : ℕ) → of-key width key .rank < ranks
-rank-below width key = omega (arith, in-ranks key)
+pub rank-below : (key : ℕ) → ranks - 1 - key % ranks < ranks
+rank-below key = omega (arith, in-ranks key)
 
 -- the key of the head of a key
 pub key-back : (width key : ℕ) → key-of (of-key width key) ≡ key

@@ -1,6 +1,6 @@
 -- `heads::gate::gate_head` meets its contract: j steps are passed, and the ticks left lie in the others. Assumes nothing.
 use borrow.Author.Needs.{needs}
-use mathlib.Core.Path.{refl}
+use mathlib.Core.Path.{refl, _∙_}
 use Prim.Native.Nat.{_-_}
 use native.Mathlib.Omega.{arith}
 use Rattle.heads.proofs.Stepping.{Passed, passed-none, passed-more, found-step, found-none}
@@ -56,7 +56,7 @@ rank-requires : tie.Need-rank-requires Inv-loop μ-loop
 rank-requires c κs = search needs
 
 tick-head-requires : tie.Need-tick-head-requires Inv-loop μ-loop
-tick-head-requires c κs = (rw (c .before .before .before .before .before .before .place-of .ensures) (c .before .before .before .before .before .before .before .before .before .before .before .before .before .before .before .pre .1 .drop-small (c .before .before .before .before .before .before .before .before .before .before .before .before .before .before .before .args .g) (c .before .before .before .before .before .before .before .before .loop .j) (c .before .before .before .before .before .before .before .before .before .before .before .before .before .before .before .pre .0) (rw (c .before .before .before .before .before .before .before .before .before .before .index .ensures) at (c .before .before .before .before .before .before .before .loop-test .taken))), rw (c .before .before .index2 .ensures) (c .before .before .before .before .before .before .before .before .before .before .before .before .before .before .before .pre .1 .input-small (c .before .before .before .before .before .before .before .before .before .before .before .before .before .before .before .args .g) (c .before .before .before .before .before .before .before .before .before .before .before .before .before .before .before .pre .0)))
+tick-head-requires c κs = (rw (c .before .before .before .before .before .before .place-of .ensures) (c .before .before .before .before .before .before .before .before .before .before .before .before .before .before .before .pre .1 .drop-small (c .before .before .before .before .before .before .before .before .before .before .before .before .before .before .before .args .g) (c .before .before .before .before .before .before .before .before .loop .j) (c .before .before .before .before .before .before .before .before .before .before .before .before .before .before .before .pre .0) (rw (c .before .before .before .before .before .before .before .before .before .before .index .ensures) at (c .before .before .before .before .before .before .before .loop-test .taken))), rw (c .before .before .index2 .ensures) (c .before .before .before .before .before .before .before .before .before .before .before .before .before .before .before .pre .1 .input-small (c .before .before .before .before .before .before .before .before .before .before .before .before .before .before .before .args .g) (c .before .before .before .before .before .before .before .before .before .before .before .before .before .before .before .pre .0)), omega (arith, c .rank .ensures, c .before .before .before .before .before .before .before .before .before .before .before .before .before .before .before .pre .1 .gates))
 
 returns : tie.Need-returns Inv-loop μ-loop
 returns c = found-step (c .before .before .before .before .before .before .before .before .before .loop .inv) (rw (c .before .before .before .before .before .before .before .before .before .before .before .index .ensures) at (c .before .before .before .before .before .before .before .before .loop-test .taken)) (c .before .before .before .before .before .before .before .place-of .ensures) refl (c .before .before .before .before .before .if1 .taken) refl (c .before .before .before .index2 .ensures) (c .before .rank .ensures) (c .tick-head .ensures)
@@ -70,8 +70,11 @@ loop-less c = search needs
 loop-again : tie.Need-loop-again Inv-loop μ-loop
 loop-again c = passed-more (c .before .before .before .before .loop .inv) (rw (c .before .before .before .before .before .before .index .ensures) at (c .before .before .before .loop-test .taken)) (c .before .before .place-of .ensures) refl (omega arith)
 
+none-requires : tie.Need-none-requires Inv-loop μ-loop
+none-requires c κs = search needs
+
 returns-2 : tie.Need-returns-2 Inv-loop μ-loop
-returns-2 c = found-none (c .before .loop .inv) (rw (c .before .before .before .index .ensures) at (c .loop-test .left))
+returns-2 c = c .none .ensures ∙ found-none (c .before .before .loop .inv) (rw (c .before .before .before .before .index .ensures) at (c .before .loop-test .left))
 
 pub gate-head-spec : {M : Type 1} → statement M
-gate-head-spec = tie.close (tie.spec Inv-loop μ-loop index-requires mul-count shared-slice-read-count loop-holds place-of-requires mul-width shared-slice-read-width sub-tick-head mul-tick-head shared-slice-read-tick-head index-requires-2 mul-tick-head-2 shared-slice-read-tick-head-2 rank-requires tick-head-requires returns add-j loop-less loop-again returns-2)
+gate-head-spec = tie.close (tie.spec Inv-loop μ-loop index-requires mul-count shared-slice-read-count loop-holds place-of-requires mul-width shared-slice-read-width sub-tick-head mul-tick-head shared-slice-read-tick-head index-requires-2 mul-tick-head-2 shared-slice-read-tick-head-2 rank-requires tick-head-requires returns add-j loop-less loop-again none-requires returns-2)
