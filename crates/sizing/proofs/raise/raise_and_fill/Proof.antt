@@ -11,28 +11,28 @@ use Rattle.sizing.proofs.raise.raise_and_fill.Statement.{statement}
 use Rattle.sizing.proofs.raise.raise_and_fill.Tie as tie
 
 abbrev Inv-loop : tie.InvT-loop
-Inv-loop n kinds lefts gates rights parents counts sws drops inputs lengths x₀ gw₀ gg₀ gr₀ ws₀ gs₀ rs₀ i₀ x gw gg gr ws gs rs i = (length x ≡ length x₀) × (i ≤ length kinds) × Standing (plan n kinds lefts gates rights parents (heads-in n counts sws drops inputs)) (state x gw gg gr ws gs rs) i × ((d : ℕ → ℕ) → Lengths (nodes-in kinds lefts gates rights) d lengths (length kinds) → Lifted (plan n kinds lefts gates rights parents (heads-in n counts sws drops inputs)) d x i)
+Inv-loop n kinds lefts gates rights parents counts sws drops inputs lengths x₀ gw₀ gk₀ ws₀ ks₀ i₀ x gw gk ws ks i = (length x ≡ length x₀) × (i ≤ length kinds) × Standing (plan n kinds lefts gates rights parents (heads-in n counts sws drops inputs)) (state x gw gk ws ks) i × ((d : ℕ → ℕ) → Lengths (nodes-in kinds lefts gates rights) d lengths (length kinds) → Lifted (plan n kinds lefts gates rights parents (heads-in n counts sws drops inputs)) d x i)
 
 abbrev μ-loop : tie.MeasureT-loop
-μ-loop n kinds lefts gates rights parents counts sws drops inputs lengths x₀ gw₀ gg₀ gr₀ ws₀ gs₀ rs₀ i₀ x gw gg gr ws gs rs i = length kinds - i
+μ-loop n kinds lefts gates rights parents counts sws drops inputs lengths x₀ gw₀ gk₀ ws₀ ks₀ i₀ x gw gk ws ks i = length kinds - i
 
 loop-holds : tie.Need-loop-holds Inv-loop μ-loop
 loop-holds c = (refl, omega arith, stands-at-first (c .before .before .before .pre .0), λ d known. lifted-none (c .before .before .before .pre .0) d)
 
 raise-sides-requires : tie.Need-raise-sides-requires Inv-loop μ-loop
-raise-sides-requires c κs = (c .before .before .before .before .before .before .before .before .loop .inv .2, (c .before .before .before .before .before .before .before .before .before .before .before .before .pre .1 .0, (c .before .before .before .before .before .before .before .loop-test .taken, c .before .before .before .before .before .before .before .before .before .before .before .before .pre .1 .1)))
+raise-sides-requires c κs = (c .before .before .before .before .before .before .loop .inv .2, (c .before .before .before .before .before .before .before .before .before .before .pre .1 .0, (c .before .before .before .before .before .loop-test .taken, c .before .before .before .before .before .before .before .before .before .before .pre .1 .1)))
 
 renew-requires : tie.Need-renew-requires Inv-loop μ-loop
-renew-requires c κs = made-here (c .before .before .before .before .before .before .before .before .raise-sides .ensures .0) (c .before .before .before .before .before .before .before .before .before .before .before .before .before .before .before .before .loop-test .taken)
+renew-requires c κs = made-here (c .before .before .before .before .before .before .raise-sides .ensures .0) (c .before .before .before .before .before .before .before .before .before .before .before .before .loop-test .taken)
 
 add-i : tie.Need-add-i Inv-loop μ-loop
-add-i c = omega (arith, c .before .before .before .before .before .before .before .before .before .before .before .before .before .before .before .before .before .loop-test .taken, c .before .before .before .before .before .before .before .before .before .before .before .before .before .before .before .before .before .before .before .before .before .before .good .1 .0)
+add-i c = omega (arith, c .before .before .before .before .before .before .before .before .before .before .before .before .before .loop-test .taken, c .before .before .before .before .before .before .before .before .before .before .before .before .before .before .before .before .before .before .good .1 .0)
 
 loop-less : tie.Need-loop-less Inv-loop μ-loop
-loop-less c = omega (arith, c .before .before .before .before .before .before .before .before .before .before .before .before .before .before .before .before .before .loop-test .taken)
+loop-less c = omega (arith, c .before .before .before .before .before .before .before .before .before .before .before .before .before .loop-test .taken)
 
 loop-again : tie.Need-loop-again Inv-loop μ-loop
-loop-again c = (c .before .before .before .before .before .before .before .before .before .raise-sides .kept .1 .1 .1 .1 .1 .1 .1 .1 .1 .1 .1 .1 .0 ∙ c .before .before .before .before .before .before .before .before .before .before .before .before .before .before .before .before .before .before .loop .inv .0, omega (arith, c .before .before .before .before .before .before .before .before .before .before .before .before .before .before .before .before .before .loop-test .taken), stands-further (c .before .before .before .before .before .before .before .before .before .raise-sides .ensures .0) (c .before .before .before .before .before .before .before .before .before .before .before .before .before .before .before .before .before .loop-test .taken) (c .renew .ensures), λ d known. c .before .before .before .before .before .before .before .before .before .raise-sides .ensures .1 .by-lengths d known (c .before .before .before .before .before .before .before .before .before .before .before .before .before .before .before .before .before .before .loop .inv .3 d known))
+loop-again c = (c .before .before .before .before .before .before .before .raise-sides .kept .1 .1 .1 .1 .1 .1 .1 .1 .1 .1 .1 .1 .0 ∙ c .before .before .before .before .before .before .before .before .before .before .before .before .before .before .loop .inv .0, omega (arith, c .before .before .before .before .before .before .before .before .before .before .before .before .before .loop-test .taken), stands-further (c .before .before .before .before .before .before .before .raise-sides .ensures .0) (c .before .before .before .before .before .before .before .before .before .before .before .before .before .loop-test .taken) (c .renew .ensures), λ d known. c .before .before .before .before .before .before .before .raise-sides .ensures .1 .by-lengths d known (c .before .before .before .before .before .before .before .before .before .before .before .before .before .before .loop .inv .3 d known))
 
 same-length : tie.Need-same-length Inv-loop μ-loop
 same-length c = c .before .loop .inv .0
