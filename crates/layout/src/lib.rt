@@ -1,8 +1,8 @@
 // The layout editor's call: the best increases of a block file as bytes (C declares it in host/include/honduvi.h).
 use crate::answer::LayoutAnswer;
 use crate::answer::refused;
-use crate::bytes::write_increases;
 use answers::best_lines::best_held;
+use bigendian::write_increases;
 use loading::Loaded;
 use loading::load;
 use model::BestAnswer;
@@ -21,7 +21,6 @@ ghost use Rattle.loading.specs.HeldFile.{HeldFile};
 ghost use Rattle.layout.specs.Answered.{leaves};
 
 pub mod answer;
-mod bytes;
 
 // The best increases of a well-formed file's block, which is in the arrays, to the front of the bytes: refusals 11 and 12, or the saving.
 fn lay_best(

@@ -1,13 +1,13 @@
--- `layout::bytes::write_increases` meets its contract. The invariant: the bytes of the first i increases stand in front. Assumes nothing.
+-- `bigendian::write_increases` meets its contract. The invariant: the bytes of the first i increases stand in front. Assumes nothing.
 use mathlib.Core.Path.{_≡_, refl, _∙_}
 use Prim.Native.Nat.{_≤_, _-_}
 use native.Mathlib.Omega.{arith}
 use lib.ListN.{length, take}
 use Rattle.lists.specs.Over.{over}
 use Rattle.model.specs.Layout.{list-bytes}
-use Rattle.layout.proofs.BytesLaws.{none-written, more-written}
-use Rattle.layout.proofs.bytes.write_increases.Statement.{statement}
-use Rattle.layout.proofs.bytes.write_increases.Tie as tie
+use Rattle.bigendian.proofs.Bytes.{none-written, more-written}
+use Rattle.bigendian.proofs.write_increases.Statement.{statement}
+use Rattle.bigendian.proofs.write_increases.Tie as tie
 
 abbrev Inv-loop : tie.InvT-loop
 Inv-loop n increases out₀ i₀ out i = (i ≤ n) × (length out ≡ length out₀) × (out ≡ over (list-bytes (take i increases)) out₀)

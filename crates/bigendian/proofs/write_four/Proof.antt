@@ -1,10 +1,10 @@
--- `layout::bytes::write_four` meets its contract: four stores, each the byte of its unit. Assumes nothing.
+-- `bigendian::write_four` meets its contract: four stores, each the byte of its unit. Assumes nothing.
 use borrow.Author.Needs.{needs}
 use native.Mathlib.Omega.{arith}
 use lib.ListN.{length-set}
-use Rattle.layout.proofs.BytesLaws.{four-stored}
-use Rattle.layout.proofs.bytes.write_four.Statement.{statement}
-use Rattle.layout.proofs.bytes.write_four.Tie as tie
+use Rattle.bigendian.proofs.Bytes.{four-stored}
+use Rattle.bigendian.proofs.write_four.Statement.{statement}
+use Rattle.bigendian.proofs.write_four.Tie as tie
 
 byte-of-requires : tie.Need-byte-of-requires
 byte-of-requires c κs = search needs
