@@ -4,7 +4,7 @@ use model::Refusal;
 ghost use mathlib.Core.Path.{_≡_};
 ghost use Prim.Native.Nat.{_<_, _^_};
 ghost use Rattle.loading.specs.Loads.{number-of, place-of};
-ghost use Rattle.layout.specs.Answered.{refused-as};
+ghost use Rattle.laying.specs.Answered.{refused-as};
 
 // Number 0: accepted, with the saving and, as place, how many increases were written. Any other number: refused there, and the saving is 0.
 #[repr(C)]

@@ -27,9 +27,8 @@ use Rattle.loading.specs.Loads.{block-held, number-of, place-of}
 use Rattle.loading.specs.HeldFile.{HeldFile}
 use Rattle.loading.proofs.Held.{gates-are}
 use Rattle.loading.proofs.Refused.{refusal-is, passed-on}
-use Rattle.layout.specs.declared.answer.LayoutAnswer.{LayoutAnswer}
-use Rattle.layout.specs.Answered.{refused-as, leaves}
-use Rattle.layout.proofs.Places.{ill-formed-place}
+use Rattle.laying.specs.declared.answer.LayoutAnswer.{LayoutAnswer}
+use Rattle.laying.specs.Answered.{refused-as, leaves}
 
 abbrev with-memory : Answer → List ℕ → Outcome (List ℕ)
 with-memory a after = record { answer = a; memory = after }
@@ -67,9 +66,6 @@ pub loading-refused : {file lent : List ℕ} (x : Refusal) (r : LayoutAnswer)
     → r ≡ refused-as (number-of x) (place-of x)
     → AnswersLayout file lent (leaves r lent)
 loading-refused {lent = lent} x r ill e = rw (refused-leaves x r lent e) (passed-on x ill)
-
-pub loading-place : {file : List ℕ} (x : Refusal) → IllFormed file (number-of x) (place-of x) → place-of x < 2 ^ 32
-loading-place {file} x ill = let h = ill-formed-place file ill in omega arith
 
 -- THE LINES FROM 11 ON
 abbrev LayoutLines : Block → List ℕ → Outcome (List ℕ) → Type 0
