@@ -1,4 +1,4 @@
-// Increases as bytes, four each, the high byte first. Public for `layout` alone.
+// Increases as bytes, four each, the high byte first. Public for `laying` alone.
 ghost use mathlib.Core.Path.{_≡_};
 ghost use mathlib.Core.List.{_++_};
 ghost use Prim.Native.Nat.{_+_, _*_, _/_, _%_, _<_, _≤_};
