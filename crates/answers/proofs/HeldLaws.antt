@@ -19,10 +19,10 @@ use Rattle.model.proofs.Source.{Along}
 use Rattle.model.proofs.Slack.{start-is}
 use Rattle.model.proofs.Curve.{start-unique}
 use Rattle.blockfile.specs.Held.{GateArrays, WireArrays}
-use Rattle.network.specs.Wires.{Lent}
+use Rattle.ordering.specs.Wires.{Lent}
 use Rattle.timing.specs.Start.{Startable, StartIs}
 use Rattle.timing.proofs.Found.{along}
-use Rattle.network.proofs.Front.{front-at}
+use Rattle.ordering.proofs.Front.{front-at}
 use Rattle.gains.specs.Activities.{input-in, Summable, InputActivities}
 use Rattle.gains.proofs.Activities.{input-is, held-activity}
 use Rattle.loading.specs.Loads.{block-held}

@@ -15,7 +15,7 @@ use Rattle.model.specs.Block.{Block, gate, gate-count}
 use Rattle.model.specs.Gain.{saving}
 use Rattle.model.specs.Curve.{Pair}
 use Rattle.model.specs.InTime.{no-increase}
-use Rattle.network.proofs.Front.{is-over}
+use Rattle.ordering.proofs.Front.{is-over}
 use Rattle.gains.specs.Steps as Gains
 use Rattle.gains.specs.Savings.{Earnable, ListSaving, most-of-gate}
 use Rattle.gains.proofs.Sums.{sum-constant}

@@ -5,7 +5,7 @@ use model::limits::GateNumbers;
 use model::limits::MAX_GATES;
 use model::limits::MAX_PAIRS;
 use model::limits::StepNumbers;
-use network::marking::at;
+use ordering::marking::at;
 use planting::MAX_NODES;
 use planting::NodeNumbers;
 use sizing::curve::spend_ticks;

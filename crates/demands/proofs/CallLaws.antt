@@ -25,7 +25,7 @@ use Rattle.model.specs.Answer.{Outcome, Slices, accepted, Line, At, Gives, Shor
 use Rattle.model.proofs.Limited.{BlockLimits, read-limits}
 use Rattle.model.proofs.Source.{Along}
 use Rattle.model.proofs.Slack as paths
-use Rattle.network.proofs.OrderOrLoop.{block-order}
+use Rattle.ordering.proofs.OrderOrLoop.{block-order}
 use Rattle.shaping.proofs.Facts.{join}
 use Rattle.demands.proofs.TableLaws.{own-lines, passed, Lines}
 

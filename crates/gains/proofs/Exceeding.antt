@@ -14,8 +14,8 @@ use Rattle.model.specs.Limits.{max-steps, max-width}
 use Rattle.model.specs.Block.{Block, gate-count}
 use Rattle.model.specs.Arrays.{step-place}
 use Rattle.model.specs.Answer.{Exceeds}
-use Rattle.network.specs.Marks.{First}
-use Rattle.network.proofs.Marks.{first-same}
+use Rattle.ordering.specs.Marks.{First}
+use Rattle.ordering.proofs.Marks.{first-same}
 use Rattle.gains.specs.Steps.{widths-in, WidthsLent, Held, LowestExceeding}
 use Rattle.gains.proofs.Sums.{sum-more, sum-bounded}
 use Rattle.gains.proofs.Held.{held-count, held-widths}

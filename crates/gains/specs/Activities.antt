@@ -8,7 +8,7 @@ use lib.ListN.{length, getD}
 use Rattle.lists.specs.Sum.{sum}
 use Rattle.lists.specs.Over.{build, over}
 use Rattle.model.specs.Limits.{max-wires, max-activity}
-use Rattle.network.specs.Wires.{Lent}
+use Rattle.ordering.specs.Wires.{Lent}
 
 -- no input activity is greater
 abbrev pub max-input : ℕ

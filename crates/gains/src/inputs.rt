@@ -1,5 +1,5 @@
 // The input activity of each gate.
-use network::marking::at;
+use ordering::marking::at;
 ghost use mathlib.Core.Path.{_≡_};
 ghost use Prim.Native.Nat.{ℕ, _≤_, _<_};
 ghost use lib.ListN.{length, getD};

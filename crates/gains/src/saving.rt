@@ -1,6 +1,6 @@
 // What the increases of gates earn.
 use crate::steps::place_of;
-use network::marking::at;
+use ordering::marking::at;
 ghost use mathlib.Core.Path.{_≡_};
 ghost use Prim.Native.Nat.{_*_, _≤_, min};
 ghost use Rattle.model.specs.Limits.{max-width, max-drop};

@@ -1,6 +1,6 @@
 // The steps of a gate: where they stand, the sum of their widths, and increases that exceed it.
 use model::limits::MAX_STEPS;
-use network::marking::at;
+use ordering::marking::at;
 ghost use mathlib.Core.Path.{_≡_};
 ghost use mathlib.Core.List.{List};
 ghost use Prim.Native.Nat.{ℕ, _≤_, _<_};

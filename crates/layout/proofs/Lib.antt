@@ -1,3 +1,1 @@
-pub mod BytesLaws
 pub mod Places
-pub mod LayoutLaws

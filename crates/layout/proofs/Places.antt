@@ -1,15 +1,16 @@
--- The place of a refusal of 1 to 9 is at most 3,787, however long the file is: `ill-formed-place`. So it fits in 32 bits.
+-- The place of a refusal of 1 to 9 is at most 3,787, however long the file is: `ill-formed-place`. So it fits in 32 bits: `loading-place`.
 -- The idea: the fields that were passed have the lengths of their tags, and there are at most 1 + 64 + 256 of them; a gate's number is below 64.
 -- Assumes nothing.
 use mathlib.Core.Path.{_≡_, refl, sym, subst}
 use mathlib.Core.Logic.{⊎-elim}
 use mathlib.Core.List.{List, [], _∷_, List·Memᴰ·cases-cons, List·Memᴰ·not-nil}
 use mathlib.Core.Bool.{_&&_}
-use Prim.Native.Nat.{ℕ, suc, _+_, _*_, _%_, _<_, _≤_}
+use Prim.Native.Nat.{ℕ, suc, _+_, _*_, _%_, _^_, _<_, _≤_}
 use native.Mathlib.Omega.{arith}
 use lib.Dec.{T, leb, eqb, leb→le, eqb→eq}
 use lib.ListN.{length, getD}
 use Rattle.lists.proofs.Bool.{and-left, and-right}
+use Rattle.model.specs.declared.Refusal.{Refusal}
 use Rattle.model.specs.Limits.{max-gates, max-wires, max-steps}
 use Rattle.model.specs.Block.{Wire, Block, Stands}
 use Rattle.model.specs.Netlist.{block-of}
@@ -22,6 +23,7 @@ use Rattle.model.proofs.Fault.{faultless-from-0}
 use Rattle.model.proofs.Reading.{made-refused}
 use Rattle.model.proofs.Limited.{header-limits, WireLimits, read-limits}
 use Rattle.model.proofs.Place.{Stage, at-block, at-gates, at-wires, Passed, none-passed, block-passed, gate-passed, gates-passed, wire-passed, block-due, gate-due, wire-due, AtFault, faulty, excess, refused-at-fault}
+use Rattle.loading.specs.Loads.{number-of, place-of}
 
 -- bytes of a field's body, at most
 abbrev body-most : Due → ℕ
@@ -40,7 +42,7 @@ wire-most = field-most (wire 0 [])
 abbrev gates-most : ℕ
 gates-most = field-most block + max-gates * field-most gate
 
-abbrev pub file-most : ℕ
+abbrev file-most : ℕ
 file-most = gates-most + max-wires * wire-most
 
 fitting-length : (k : Due) (l : ℕ) → T (length-fits k l) → l ≤ body-most k
@@ -111,8 +113,11 @@ module _ (s : List ℕ) (B : Block) (end : ℕ) (e : read-block s ≡ found B en
   end-gate g (out-of-last b h j) = let l = read-limits s e in omega arith
   end-gate g (none-out h i j) = let l = read-limits s e in omega arith
 
-pub ill-formed-place : (file : List ℕ) {k p : ℕ} → IllFormed file k p → p ≤ file-most
+ill-formed-place : (file : List ℕ) {k p : ℕ} → IllFormed file k p → p ≤ file-most
 unfolding read-block
 ill-formed-place file (unread e) = fault-early (refused-at-fault file (made-refused (decode file) block-of e))
 ill-formed-place file {k} {p} (loop B end e low c) = let h = loop-gate file B end e p (low .holds) in omega arith
 ill-formed-place file {k} {p} (ends B end e none low c) = let h = end-gate file B end e p (low .holds) in omega arith
+
+pub loading-place : {file : List ℕ} (x : Refusal) → IllFormed file (number-of x) (place-of x) → place-of x < 2 ^ 32
+loading-place {file} x ill = let h = ill-formed-place file ill in omega arith

@@ -12,7 +12,7 @@ use Rattle.model.specs.Arrays.{wire-at, gate-at}
 use Rattle.model.specs.File.{found, read-block}
 use Rattle.model.proofs.Limited.{BlockLimits, read-limits}
 use Rattle.blockfile.specs.Held.{GateArrays, WireArrays, WireRoom}
-use Rattle.network.specs.Wires.{Lent, InArrays}
+use Rattle.ordering.specs.Wires.{Lent, InArrays}
 use Rattle.loading.specs.Loads.{block-held}
 
 module _ (file : List ℕ) (n m arrival deadline activity : ℕ) (G : GateArrays) (W : WireArrays) (o : ℕ) (reads : read-block file ≡ found (block-held n m arrival deadline activity G W) o) where

@@ -10,8 +10,8 @@ use Rattle.model.specs.Block.{Block, gate-count}
 use Rattle.model.specs.Refusal.{WellFormed}
 use Rattle.model.specs.Answer.{refusal, Outcome, Line, fits, Judged, well-formed, Shorter}
 use Rattle.blockfile.specs.Held.{GateArrays, WireArrays}
-use Rattle.network.specs.Wires.{Wired}
-use Rattle.network.specs.Order.{Order}
+use Rattle.ordering.specs.Wires.{Wired}
+use Rattle.ordering.specs.Order.{Order}
 use Rattle.loading.specs.Loads.{block-held}
 use Rattle.loading.proofs.Held.{gates-are}
 use Rattle.loading.specs.HeldFile.{HeldFile}

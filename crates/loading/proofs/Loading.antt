@@ -14,10 +14,10 @@ use Rattle.blockfile.specs.Held.{GateArrays, WireArrays, WireRoom}
 use Rattle.blockfile.specs.Reads.{block-passing}
 use Rattle.network.specs.declared.Network.{Network}
 use Rattle.network.specs.declared.Network.the-variants.{Sound, Loop, Ends}
-use Rattle.network.specs.Wires.{Lent, InArrays}
-use Rattle.network.specs.Order.{Order, SameBeyond}
+use Rattle.ordering.specs.Wires.{Lent, InArrays}
+use Rattle.ordering.specs.Order.{Order, SameBeyond}
 use Rattle.network.specs.Judged.{Judged}
-use Rattle.network.proofs.Wires.{wired-joined}
+use Rattle.ordering.proofs.Wires.{wired-joined}
 use Rattle.loading.proofs.Held.{gates-are, lent, in-arrays}
 use Rattle.loading.specs.Loads.{block-held, loaded-as, number-of, place-of, Loads}
 

@@ -6,8 +6,8 @@ use lib.ListN.{length}
 use Rattle.model.specs.Limits.{max-gates, max-wires, max-steps}
 use Rattle.model.specs.Refusal.{WellFormed}
 use Rattle.blockfile.specs.Held.{GateArrays, WireArrays}
-use Rattle.network.specs.Wires.{Wired}
-use Rattle.network.specs.Order.{Order}
+use Rattle.ordering.specs.Wires.{Wired}
+use Rattle.ordering.specs.Order.{Order}
 use Rattle.loading.specs.Loads.{block-held}
 
 -- The file is well-formed and its block is in the arrays, with an order of its gates along the wires; the arrays are as long as those of the calls.

@@ -10,8 +10,8 @@ use Rattle.model.specs.Answer.{refusal-answer}
 use Rattle.blockfile.specs.Held.{GateArrays, WireArrays, gates-held, wires-held}
 use Rattle.network.specs.declared.Network.{Network}
 use Rattle.network.specs.declared.Network.the-variants as Networks
-use Rattle.network.specs.Wires.{Wired}
-use Rattle.network.specs.Order.{Order, SameBeyond}
+use Rattle.ordering.specs.Wires.{Wired}
+use Rattle.ordering.specs.Order.{Order, SameBeyond}
 use Rattle.loading.specs.declared.Loaded.{Loaded}
 use Rattle.loading.specs.declared.Loaded.the-variants.{Sound, Refused}
 

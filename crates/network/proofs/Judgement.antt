@@ -5,7 +5,6 @@ use mathlib.Core.Logic.{_↔_}
 use mathlib.Core.Bool.{true}
 use mathlib.Core.List.{List}
 use Prim.Native.Nat.{ℕ, _<_}
-use native.Mathlib.Nat.{lt-irrefl}
 use native.Mathlib.Omega.{arith}
 use native.Mathlib.Decide.{decLt}
 use Rattle.lists.specs.Search.{Lowest}
@@ -14,18 +13,16 @@ use Rattle.model.specs.Refusal.{OnLoop, EndFault, SoundNetwork}
 use Rattle.network.specs.declared.Network.{Network}
 use Rattle.network.specs.declared.Network.the-variants.{Sound, Loop, Ends}
 use Rattle.network.specs.declared.Faults.the-variants.{Nowhere, At}
-use Rattle.network.specs.Wires.{Lent, InArrays}
-use Rattle.network.specs.Marks.{First}
-use Rattle.network.specs.Order.{Order}
-use Rattle.network.specs.Judged.{OrderFound, FaultFound, Judged}
-use Rattle.network.proofs.Reach.{Reach, leaves, from-reaches, place-grows}
-use Rattle.network.proofs.Wires.{wired-gates, loop-wired}
+use Rattle.ordering.specs.Wires.{Lent, InArrays}
+use Rattle.ordering.specs.Marks.{First}
+use Rattle.ordering.specs.Order.{OrderFound}
+use Rattle.network.specs.Judged.{FaultFound, Judged}
+use Rattle.ordering.proofs.Reach.{leaves, from-reaches}
+use Rattle.ordering.proofs.Wires.{wired-gates, loop-wired}
+use Rattle.ordering.proofs.OrderOrLoop.{no-loop}
 
 -- an order leaves no loop
-pub no-loop : {E : ℕ → ℕ → Type 0} {n : ℕ} {order : List ℕ} → Order E n order → (g : ℕ) → ¬ (Reach E g g)
-no-loop O g r = lt-irrefl (O .place g) (place-grows (O .place) (O .forward) r)
-
-pub ordered-no-loop : (B : Block) (order : List ℕ) → OrderFound B order true → (g : ℕ) → ¬ (OnLoop B g)
+ordered-no-loop : (B : Block) (order : List ℕ) → OrderFound B order true → (g : ℕ) → ¬ (OnLoop B g)
 ordered-no-loop B order O g r = no-loop O g (from-reaches r)
 
 module _ (B : Block) (n m : ℕ) (sources targets : List ℕ) (I : InArrays B n m sources targets) (L : Lent n m sources targets) where

@@ -1,16 +1,2 @@
-pub mod Reach
-pub mod Loop
-pub mod Pigeonhole
-pub mod Placing
-pub mod Marks
-pub mod Square
-pub mod Wires
-pub mod Front
-pub mod Chains
-pub mod Counts
-pub mod Passing
-pub mod Turns
 pub mod Misplaced
-pub mod Answers
 pub mod Judgement
-pub mod OrderOrLoop

@@ -13,13 +13,13 @@ use borrow.Author.Tests.{eqb-true, eqb-false, not-true, not-false}
 use Rattle.lists.specs.Search.{Says}
 use Rattle.model.specs.Block.{Block, last, Joined}
 use Rattle.model.specs.Refusal.{EndFault, into-first, none-in, out-of-last, none-out}
-use Rattle.network.specs.Wires.{Lent, InArrays}
-use Rattle.network.specs.Marks.{Marks, Among, First}
+use Rattle.ordering.specs.Wires.{Lent, InArrays}
+use Rattle.ordering.specs.Marks.{Marks, Among, First}
 use Rattle.network.specs.Misplaced.{Misplaced, too-many, missing, Faulty}
 use Rattle.network.specs.declared.Faults.the-variants.{Nowhere, At}
 use Rattle.network.specs.Judged.{FaultFound}
-use Rattle.network.proofs.Marks.{first-same}
-use Rattle.network.proofs.Wires.{wired-gates, wired-joined, joined-wired}
+use Rattle.ordering.proofs.Marks.{first-same}
+use Rattle.ordering.proofs.Wires.{wired-gates, wired-joined, joined-wired}
 
 -- what a test's two outcomes say
 says-by : (P : Type 0) (b : Bool) → (b ≡ true → P) → (b ≡ false → ¬ P) → Says P b

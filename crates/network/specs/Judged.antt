@@ -1,5 +1,4 @@
 -- What the answers about a network say of a block.
-use mathlib.Core.Bool.{Bool, true, false}
 use mathlib.Core.List.{List}
 use Prim.Native.Nat.{ℕ}
 use Rattle.lists.specs.Search.{Lowest}
@@ -9,12 +8,7 @@ use Rattle.network.specs.declared.Faults.{Faults}
 use Rattle.network.specs.declared.Faults.the-variants.{Nowhere, At}
 use Rattle.network.specs.declared.Network.{Network}
 use Rattle.network.specs.declared.Network.the-variants.{Sound, Loop, Ends}
-use Rattle.network.specs.Order.{Order}
-
--- an order was found, or there is none, since some gate reaches itself
-abbrev pub OrderFound : Block → List ℕ → Bool → Type 0
-OrderFound B order true = Order (Joined (B .wires)) (gate-count B) order
-OrderFound B order false = (g : ℕ) × OnLoop B g
+use Rattle.ordering.specs.Order.{Order}
 
 -- refusal 9 alone: no gate is at fault with its wires, or the lowest that is
 abbrev pub FaultFound : Block → Faults → Type 0

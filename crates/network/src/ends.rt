@@ -1,13 +1,13 @@
 // Refusal 9: the lowest gate that has a wire where it must have none, or none where it must have one.
 use super::Faults;
-use super::marking::mark_keys;
 use model::limits::MAX_GATES;
+use ordering::marking::mark_keys;
 ghost use Prim.Native.Nat.{_≤_, _<_};
 ghost use lib.ListN.{length};
 ghost use Rattle.lists.specs.Search.{Says};
 ghost use Rattle.model.specs.Block.{Block};
-ghost use Rattle.network.specs.Wires.{Lent, InArrays};
-ghost use Rattle.network.specs.Marks.{First};
+ghost use Rattle.ordering.specs.Wires.{Lent, InArrays};
+ghost use Rattle.ordering.specs.Marks.{First};
 ghost use Rattle.network.specs.Misplaced.{Misplaced, Faulty};
 ghost use Rattle.network.specs.Judged.{FaultFound};
 

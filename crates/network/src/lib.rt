@@ -1,16 +1,14 @@
-// The network of a block: refusal 8 (a gate reaches itself), refusal 9 (a gate is at fault with its wires), and an order of the gates along the wires.
+// The judgement of a network: refusal 8 (a gate reaches itself), refusal 9 (a gate is at fault with its wires), or an order of its gates.
 // Every function here is public only for the crates above. `sources` and `targets` hold the gates that each of the `m` wires joins; wire delays play no part.
-pub mod chain;
 mod ends;
-mod loops;
-pub mod marking;
-mod ordering;
 
+use loops::lowest_on_loop;
+use ordering::order_gates;
 ghost use Prim.Native.Nat.{_≤_};
 ghost use lib.ListN.{length};
 ghost use Rattle.model.specs.Block.{Block};
-ghost use Rattle.network.specs.Wires.{Lent, InArrays};
-ghost use Rattle.network.specs.Order.{SameBeyond};
+ghost use Rattle.ordering.specs.Wires.{Lent, InArrays};
+ghost use Rattle.ordering.specs.Order.{SameBeyond};
 ghost use Rattle.network.specs.Judged.{Judged};
 
 // Refusal 9 alone.
@@ -44,9 +42,9 @@ pub fn judge_network(
     ensures { λ r. ⌜ ((B : Block) → InArrays B n m (now (sources .entry)) (now (targets .entry)) → Judged B (now (order .exit)) r) ⌝ }
     ensures { λ r. ⌜ SameBeyond n (now (order .entry)) (now (order .exit)) ⌝ }
 {
-    let ordered = ordering::order_gates(n, m, sources, targets, order);
+    let ordered = order_gates(n, m, sources, targets, order);
     if !ordered {
-        let gate = loops::lowest_on_loop(n, m, sources, targets);
+        let gate = lowest_on_loop(n, m, sources, targets);
         return Network::Loop { gate: gate };
     }
     let faults = ends::lowest_at_fault(n, m, sources, targets);

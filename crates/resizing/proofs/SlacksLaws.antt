@@ -17,8 +17,8 @@ use Rattle.model.specs.Answer.{refusal, accepted, well-formed, fits, passes, An
 use Rattle.model.specs.Arrays.{wires-in}
 use Rattle.model.proofs.SameDelays.{source-same, required-same}
 use Rattle.blockfile.specs.Held.{GateArrays, WireArrays, WireRoom}
-use Rattle.network.specs.Wires.{Lent, Wired}
-use Rattle.network.specs.Order.{Order}
+use Rattle.ordering.specs.Wires.{Lent, Wired}
+use Rattle.ordering.specs.Order.{Order}
 use Rattle.timing.specs.Slacks.{Slackable, slack-in}
 use Rattle.timing.proofs.Found.{along}
 use Rattle.loading.specs.Loads.{block-held}

@@ -11,7 +11,7 @@ use Rattle.model.specs.InTime.{no-increase}
 use Rattle.model.specs.Arrays.{wires-in}
 use Rattle.model.proofs.Slack.{zeros}
 use Rattle.model.proofs.SameDelays.{source-same}
-use Rattle.network.proofs.Front.{front-at}
+use Rattle.ordering.proofs.Front.{front-at}
 use Rattle.timing.specs.Times.{Timeable, source-in, LatestTimes}
 use Rattle.timing.proofs.Found.{along, source-bounded}
 use Rattle.resizing.specs.Slowed.{Addable, slowed-delay, Added, Lasting, Lasts}

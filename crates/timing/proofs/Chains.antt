@@ -13,7 +13,7 @@ use Rattle.lists.proofs.Bool.{cases}
 use Rattle.model.specs.Block.{Wire}
 use Rattle.model.specs.Slack.{latest-in}
 use Rattle.model.specs.Arrays.{wire-at, wires-in}
-use Rattle.network.specs.Chain.{last-before}
+use Rattle.ordering.specs.Chain.{last-before}
 
 -- the latest time over one wire more at the end
 latest-snoc : (ws : List Wire) (w : Wire) (time : ℕ → ℕ) (base g : ℕ)

@@ -14,9 +14,9 @@ use Rattle.model.specs.Block.{Wire, Stands}
 use Rattle.model.specs.Slack.{latest-in, source-by}
 use Rattle.model.specs.Arrays.{wire-at, wires-in}
 use Rattle.model.proofs.Source.{Along, Came, at-base, by-wire, latest-same, latest-attained, source-equation}
-use Rattle.network.specs.Wires.{Lent, Wired}
-use Rattle.network.specs.Order.{Order, SameBeyond}
-use Rattle.network.proofs.Front.{set-beyond, front-written}
+use Rattle.ordering.specs.Wires.{Lent, Wired}
+use Rattle.ordering.specs.Order.{Order, SameBeyond}
+use Rattle.ordering.proofs.Front.{set-beyond, front-written}
 use Rattle.timing.specs.Times.{most-delay, time-bound, Walkable, Ready, source-in, LatestTimes}
 
 -- a wire of the arrays' list stands at some place of the arrays

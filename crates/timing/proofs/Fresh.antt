@@ -7,8 +7,8 @@ use native.Mathlib.Omega.{arith}
 use lib.ListN.{length}
 use Rattle.model.specs.Limits.{max-gates, max-wires}
 use Rattle.model.specs.InTime.{no-increase}
-use Rattle.network.specs.Chain.{Chainable, Chained}
-use Rattle.network.proofs.Chains.{zeros-chainable}
+use Rattle.ordering.specs.Chain.{Chainable, Chained}
+use Rattle.ordering.proofs.Chains.{zeros-chainable}
 use Rattle.timing.specs.Times.{Timeable, Ready}
 
 module _ (n m : ℕ) (order sources targets wire-delays gate-delays : List ℕ) (base : ℕ) (times : List ℕ) (able : Timeable n m order sources targets wire-delays gate-delays base times) where

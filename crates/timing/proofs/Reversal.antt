@@ -12,8 +12,8 @@ use Rattle.lists.specs.Over.{build}
 use Rattle.model.specs.Block.{Wire}
 use Rattle.model.specs.Arrays.{wire-at, wires-in}
 use Rattle.model.proofs.Turned.{turned, turn}
-use Rattle.network.specs.Wires.{Lent, Wired}
-use Rattle.network.specs.Order.{Order}
+use Rattle.ordering.specs.Wires.{Lent, Wired}
+use Rattle.ordering.specs.Order.{Order}
 use Rattle.timing.specs.Slacks.{Reversed}
 
 -- one element more is turned

@@ -16,7 +16,7 @@ use Rattle.model.proofs.Signed.{minus-minus}
 use Rattle.model.proofs.Slack.{zeros}
 use Rattle.model.proofs.Source.{Along, source-equation}
 use Rattle.model.proofs.Turned.{required-turned}
-use Rattle.network.proofs.Front.{front-at}
+use Rattle.ordering.proofs.Front.{front-at}
 use Rattle.timing.specs.Times.{Timeable, source-in, LatestTimes}
 use Rattle.timing.specs.Slacks.{Reversed, Slackable, Subtractable, left-at, slack-in}
 use Rattle.timing.proofs.Found.{along, source-bounded}

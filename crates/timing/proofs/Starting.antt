@@ -7,7 +7,7 @@ use lib.ListN.{getD}
 use Rattle.model.specs.Limits.{max-gates}
 use Rattle.model.specs.InTime.{no-increase}
 use Rattle.model.proofs.Slack.{zeros}
-use Rattle.network.proofs.Front.{front-at}
+use Rattle.ordering.proofs.Front.{front-at}
 use Rattle.timing.specs.Times.{Timeable, source-in, LatestTimes}
 use Rattle.timing.specs.Start.{Startable, StartIs}
 use Rattle.timing.proofs.Found.{source-bounded}

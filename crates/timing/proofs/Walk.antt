@@ -8,8 +8,8 @@ use native.Mathlib.Omega.{arith}
 use lib.ListN.{getD}
 use Rattle.model.specs.Arrays.{wires-in}
 use Rattle.model.proofs.Source.{latest-base}
-use Rattle.network.specs.Chain.{last-before, Chained}
-use Rattle.network.proofs.Chains.{last-leads-there, last-at-most}
+use Rattle.ordering.specs.Chain.{last-before, Chained}
+use Rattle.ordering.proofs.Chains.{last-leads-there, last-at-most}
 use Rattle.timing.proofs.Chains.{over-first, over-none, over-last, over-linked}
 
 module _ (sources targets delays times : List ℕ) (base g m : ℕ) where

@@ -7,8 +7,8 @@ use lib.ListN.{length, getD}
 use Rattle.model.specs.Limits.{max-time}
 use Rattle.model.specs.Slack.{source-by, required-by}
 use Rattle.model.specs.Arrays.{wires-in}
-use Rattle.network.specs.Wires.{Lent, Wired}
-use Rattle.network.specs.Order.{Order}
+use Rattle.ordering.specs.Wires.{Lent, Wired}
+use Rattle.ordering.specs.Order.{Order}
 use Rattle.timing.specs.Times.{Delays, time-bound}
 
 -- `back` names the first n elements of `order` in the other direction

@@ -5,8 +5,8 @@ use Prim.Native.Nat.{ℕ, _-_, _≤_}
 use lib.ListN.{length, getD}
 use Rattle.model.specs.Slack.{source-by}
 use Rattle.model.specs.Arrays.{wires-in}
-use Rattle.network.specs.Wires.{Lent, Wired}
-use Rattle.network.specs.Order.{Order}
+use Rattle.ordering.specs.Wires.{Lent, Wired}
+use Rattle.ordering.specs.Order.{Order}
 use Rattle.timing.specs.Times.{Delays, time-bound}
 
 -- The network is at hand with an order of its gates along the wires.

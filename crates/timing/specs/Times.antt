@@ -7,9 +7,9 @@ use Rattle.lists.specs.Over.{build, over}
 use Rattle.model.specs.Limits.{max-delay, max-steps, max-width, max-time}
 use Rattle.model.specs.Slack.{source-by}
 use Rattle.model.specs.Arrays.{wires-in}
-use Rattle.network.specs.Wires.{Lent, Wired}
-use Rattle.network.specs.Order.{Order}
-use Rattle.network.specs.Chain.{Chained}
+use Rattle.ordering.specs.Wires.{Lent, Wired}
+use Rattle.ordering.specs.Order.{Order}
+use Rattle.ordering.specs.Chain.{Chained}
 
 -- the longest delay of a gate, slowed as far as its steps go
 abbrev pub most-delay : ℕ

@@ -3,7 +3,7 @@ ghost use Rattle.timing.specs.Times.{Timeable, LatestTimes};
 use crate::latest::latest_times;
 use model::limits::MAX_GATES;
 use model::limits::MAX_WIRES;
-use network::chain::chain_wires;
+use ordering::chain::chain_wires;
 
 // The latest time at the output of each of n gates, where signals start at `base`, to the front of `times`.
 pub fn times_from(

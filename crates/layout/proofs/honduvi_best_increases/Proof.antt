@@ -1,9 +1,8 @@
--- `layout::honduvi_best_increases` meets its contract: the refusals 1 to 9 as loading finds them, then room, then the best increases. Assumes nothing.
+-- `layout::honduvi_best_increases` meets its contract: the refusals 1 to 9 as loading finds them, then room and the best increases. Assumes nothing.
 use borrow.Author.Needs.{needs}
-use native.Mathlib.Omega.{arith}
-use Rattle.blockfile.specs.Held.{gate-arrays, wire-arrays}
 use Rattle.loading.proofs.HeldFile.{held-file}
-use Rattle.layout.proofs.LayoutLaws.{gates-most, loading-place, loading-refused, no-room, nothing-saved}
+use Rattle.laying.proofs.LayoutLaws.{loading-refused, nothing-saved}
+use Rattle.layout.proofs.Places.{loading-place}
 use Rattle.layout.proofs.honduvi_best_increases.Statement.{statement}
 use Rattle.layout.proofs.honduvi_best_increases.Tie as tie
 
@@ -46,15 +45,6 @@ refused-requires c κs = loading-place (c .before .loaded .given .0 .0) (rw (c .
 enum-known-loaded-2 : tie.Need-enum-known-loaded-2
 enum-known-loaded-2 c = search needs
 
-mul-needed : tie.Need-mul-needed
-mul-needed c = let h = gates-most (held-file (c .before .before .before .before .before .before .before .before .before .before .before .before .before .before .before .before .before .before .before .before .before .before .before .before .args .file .now) (c .before .loaded2 .given .0 .0) (c .before .loaded2 .given .0 .1 .0) (c .before .loaded2 .given .0 .1 .1 .0) (c .before .loaded2 .given .0 .1 .1 .1 .0) (c .before .loaded2 .given .0 .1 .1 .1 .1 .0) (gate-arrays (c .before .before .before .before .before .before .before .before .before .before .before .before .load .last .1 .0) (c .before .before .before .before .before .before .before .before .before .before .before .before .load .last .1 .1 .0) (c .before .before .before .before .before .before .before .before .before .before .before .before .load .last .1 .1 .1 .0) (c .before .before .before .before .before .before .before .before .before .before .before .before .load .last .1 .1 .1 .1 .0) (c .before .before .before .before .before .before .before .before .before .before .before .before .load .last .1 .1 .1 .1 .1 .0)) (wire-arrays (c .before .before .before .before .before .before .before .before .before .before .before .before .load .last .1 .1 .1 .1 .1 .1 .0) (c .before .before .before .before .before .before .before .before .before .before .before .before .load .last .1 .1 .1 .1 .1 .1 .1 .0) (c .before .before .before .before .before .before .before .before .before .before .before .before .load .last .1 .1 .1 .1 .1 .1 .1 .1 .0)) (c .before .before .before .before .before .before .before .before .before .before .before .before .load .last .1 .1 .1 .1 .1 .1 .1 .1 .1 .0) (rw (c .before .loaded2 .given .1) at (c .before .before .before .before .before .before .before .before .before .before .before .before .load .ensures)) (c .before .before .before .before .before .before .before .before .before .before .before .before .load .kept .1 .0) (c .before .before .before .before .before .before .before .before .before .before .before .before .load .kept .1 .1 .0) (c .before .before .before .before .before .before .before .before .before .before .before .before .load .kept .1 .1 .1 .0) (c .before .before .before .before .before .before .before .before .before .before .before .before .load .kept .1 .1 .1 .1 .0) (c .before .before .before .before .before .before .before .before .before .before .before .before .load .kept .1 .1 .1 .1 .1 .0) (c .before .before .before .before .before .before .before .before .before .before .before .before .load .kept .1 .1 .1 .1 .1 .1 .0) (c .before .before .before .before .before .before .before .before .before .before .before .before .load .kept .1 .1 .1 .1 .1 .1 .1 .0) (c .before .before .before .before .before .before .before .before .before .before .before .before .load .kept .1 .1 .1 .1 .1 .1 .1 .1 .0) (c .before .before .before .before .before .before .before .before .before .before .before .before .load .kept .1 .1 .1 .1 .1 .1 .1 .1 .1 .0)) in omega arith
-
-refused-requires-2 : tie.Need-refused-requires-2
-refused-requires-2 c κs = let h = gates-most (held-file (c .before .before .before .before .before .before .before .before .before .before .before .before .before .before .before .before .before .before .before .before .before .before .before .before .before .args .file .now) (c .before .before .loaded2 .given .0 .0) (c .before .before .loaded2 .given .0 .1 .0) (c .before .before .loaded2 .given .0 .1 .1 .0) (c .before .before .loaded2 .given .0 .1 .1 .1 .0) (c .before .before .loaded2 .given .0 .1 .1 .1 .1 .0) (gate-arrays (c .before .before .before .before .before .before .before .before .before .before .before .before .before .load .last .1 .0) (c .before .before .before .before .before .before .before .before .before .before .before .before .before .load .last .1 .1 .0) (c .before .before .before .before .before .before .before .before .before .before .before .before .before .load .last .1 .1 .1 .0) (c .before .before .before .before .before .before .before .before .before .before .before .before .before .load .last .1 .1 .1 .1 .0) (c .before .before .before .before .before .before .before .before .before .before .before .before .before .load .last .1 .1 .1 .1 .1 .0)) (wire-arrays (c .before .before .before .before .before .before .before .before .before .before .before .before .before .load .last .1 .1 .1 .1 .1 .1 .0) (c .before .before .before .before .before .before .before .before .before .before .before .before .before .load .last .1 .1 .1 .1 .1 .1 .1 .0) (c .before .before .before .before .before .before .before .before .before .before .before .before .before .load .last .1 .1 .1 .1 .1 .1 .1 .1 .0)) (c .before .before .before .before .before .before .before .before .before .before .before .before .before .load .last .1 .1 .1 .1 .1 .1 .1 .1 .1 .0) (rw (c .before .before .loaded2 .given .1) at (c .before .before .before .before .before .before .before .before .before .before .before .before .before .load .ensures)) (c .before .before .before .before .before .before .before .before .before .before .before .before .before .load .kept .1 .0) (c .before .before .before .before .before .before .before .before .before .before .before .before .before .load .kept .1 .1 .0) (c .before .before .before .before .before .before .before .before .before .before .before .before .before .load .kept .1 .1 .1 .0) (c .before .before .before .before .before .before .before .before .before .before .before .before .before .load .kept .1 .1 .1 .1 .0) (c .before .before .before .before .before .before .before .before .before .before .before .before .before .load .kept .1 .1 .1 .1 .1 .0) (c .before .before .before .before .before .before .before .before .before .before .before .before .before .load .kept .1 .1 .1 .1 .1 .1 .0) (c .before .before .before .before .before .before .before .before .before .before .before .before .before .load .kept .1 .1 .1 .1 .1 .1 .1 .0) (c .before .before .before .before .before .before .before .before .before .before .before .before .before .load .kept .1 .1 .1 .1 .1 .1 .1 .1 .0) (c .before .before .before .before .before .before .before .before .before .before .before .before .before .load .kept .1 .1 .1 .1 .1 .1 .1 .1 .1 .0)) in omega arith
-
-returns : tie.Need-returns
-returns c = (no-room (held-file (c .before .before .before .before .before .before .before .before .before .before .before .before .before .before .before .before .before .before .before .before .before .before .before .before .before .before .args .file .now) (c .before .before .before .loaded2 .given .0 .0) (c .before .before .before .loaded2 .given .0 .1 .0) (c .before .before .before .loaded2 .given .0 .1 .1 .0) (c .before .before .before .loaded2 .given .0 .1 .1 .1 .0) (c .before .before .before .loaded2 .given .0 .1 .1 .1 .1 .0) (gate-arrays (c .before .before .before .before .before .before .before .before .before .before .before .before .before .before .load .last .1 .0) (c .before .before .before .before .before .before .before .before .before .before .before .before .before .before .load .last .1 .1 .0) (c .before .before .before .before .before .before .before .before .before .before .before .before .before .before .load .last .1 .1 .1 .0) (c .before .before .before .before .before .before .before .before .before .before .before .before .before .before .load .last .1 .1 .1 .1 .0) (c .before .before .before .before .before .before .before .before .before .before .before .before .before .before .load .last .1 .1 .1 .1 .1 .0)) (wire-arrays (c .before .before .before .before .before .before .before .before .before .before .before .before .before .before .load .last .1 .1 .1 .1 .1 .1 .0) (c .before .before .before .before .before .before .before .before .before .before .before .before .before .before .load .last .1 .1 .1 .1 .1 .1 .1 .0) (c .before .before .before .before .before .before .before .before .before .before .before .before .before .before .load .last .1 .1 .1 .1 .1 .1 .1 .1 .0)) (c .before .before .before .before .before .before .before .before .before .before .before .before .before .before .load .last .1 .1 .1 .1 .1 .1 .1 .1 .1 .0) (rw (c .before .before .before .loaded2 .given .1) at (c .before .before .before .before .before .before .before .before .before .before .before .before .before .before .load .ensures)) (c .before .before .before .before .before .before .before .before .before .before .before .before .before .before .load .kept .1 .0) (c .before .before .before .before .before .before .before .before .before .before .before .before .before .before .load .kept .1 .1 .0) (c .before .before .before .before .before .before .before .before .before .before .before .before .before .before .load .kept .1 .1 .1 .0) (c .before .before .before .before .before .before .before .before .before .before .before .before .before .before .load .kept .1 .1 .1 .1 .0) (c .before .before .before .before .before .before .before .before .before .before .before .before .before .before .load .kept .1 .1 .1 .1 .1 .0) (c .before .before .before .before .before .before .before .before .before .before .before .before .before .before .load .kept .1 .1 .1 .1 .1 .1 .0) (c .before .before .before .before .before .before .before .before .before .before .before .before .before .before .load .kept .1 .1 .1 .1 .1 .1 .1 .0) (c .before .before .before .before .before .before .before .before .before .before .before .before .before .before .load .kept .1 .1 .1 .1 .1 .1 .1 .1 .0) (c .before .before .before .before .before .before .before .before .before .before .before .before .before .before .load .kept .1 .1 .1 .1 .1 .1 .1 .1 .1 .0)) (c .before .before .before .before .before .before .before .before .before .before .before .before .before .before .before .before .before .before .before .before .before .before .before .before .before .before .args .increases .now) _ (c .refused2 .ensures) (omega (arith, c .before .if1 .taken)), nothing-saved _ (c .refused2 .ensures))
-
 slice-aggregate-lay-best : tie.Need-slice-aggregate-lay-best
 slice-aggregate-lay-best c = search needs
 
@@ -74,16 +64,27 @@ slice-aggregate-lay-best-6 : tie.Need-slice-aggregate-lay-best-6
 slice-aggregate-lay-best-6 c = search needs
 
 lay-best-requires : tie.Need-lay-best-requires
-lay-best-requires c κs = ((c .before .before .before .before .before .before .before .before .before .before .before .before .before .before .before .before .before .before .before .before .before .before .before .before .before .before .before .before .before .before .before .before .before .before .before .args .file .now, (held-file (c .before .before .before .before .before .before .before .before .before .before .before .before .before .before .before .before .before .before .before .before .before .before .before .before .before .before .before .before .before .before .before .before .before .before .before .args .file .now) (c .before .before .before .before .before .before .before .before .before .before .before .before .loaded2 .given .0 .0) (c .before .before .before .before .before .before .before .before .before .before .before .before .loaded2 .given .0 .1 .0) (c .before .before .before .before .before .before .before .before .before .before .before .before .loaded2 .given .0 .1 .1 .0) (c .before .before .before .before .before .before .before .before .before .before .before .before .loaded2 .given .0 .1 .1 .1 .0) (c .before .before .before .before .before .before .before .before .before .before .before .before .loaded2 .given .0 .1 .1 .1 .1 .0) (gate-arrays (c .before .before .before .before .before .before .before .before .before .before .before .before .before .before .before .before .before .before .before .before .before .before .before .load .last .1 .0) (c .before .before .before .before .before .before .before .before .before .before .before .before .before .before .before .before .before .before .before .before .before .before .before .load .last .1 .1 .0) (c .before .before .before .before .before .before .before .before .before .before .before .before .before .before .before .before .before .before .before .before .before .before .before .load .last .1 .1 .1 .0) (c .before .before .before .before .before .before .before .before .before .before .before .before .before .before .before .before .before .before .before .before .before .before .before .load .last .1 .1 .1 .1 .0) (c .before .before .before .before .before .before .before .before .before .before .before .before .before .before .before .before .before .before .before .before .before .before .before .load .last .1 .1 .1 .1 .1 .0)) (wire-arrays (c .before .before .before .before .before .before .before .before .before .before .before .before .before .before .before .before .before .before .before .before .before .before .before .load .last .1 .1 .1 .1 .1 .1 .0) (c .before .before .before .before .before .before .before .before .before .before .before .before .before .before .before .before .before .before .before .before .before .before .before .load .last .1 .1 .1 .1 .1 .1 .1 .0) (c .before .before .before .before .before .before .before .before .before .before .before .before .before .before .before .before .before .before .before .before .before .before .before .load .last .1 .1 .1 .1 .1 .1 .1 .1 .0)) (c .before .before .before .before .before .before .before .before .before .before .before .before .before .before .before .before .before .before .before .before .before .before .before .load .last .1 .1 .1 .1 .1 .1 .1 .1 .1 .0) (rw (c .before .before .before .before .before .before .before .before .before .before .before .before .loaded2 .given .1) at (c .before .before .before .before .before .before .before .before .before .before .before .before .before .before .before .before .before .before .before .before .before .before .before .load .ensures)) (c .before .before .before .before .before .before .before .before .before .before .before .before .before .before .before .before .before .before .before .before .before .before .before .load .kept .1 .0) (c .before .before .before .before .before .before .before .before .before .before .before .before .before .before .before .before .before .before .before .before .before .before .before .load .kept .1 .1 .0) (c .before .before .before .before .before .before .before .before .before .before .before .before .before .before .before .before .before .before .before .before .before .before .before .load .kept .1 .1 .1 .0) (c .before .before .before .before .before .before .before .before .before .before .before .before .before .before .before .before .before .before .before .before .before .before .before .load .kept .1 .1 .1 .1 .0) (c .before .before .before .before .before .before .before .before .before .before .before .before .before .before .before .before .before .before .before .before .before .before .before .load .kept .1 .1 .1 .1 .1 .0) (c .before .before .before .before .before .before .before .before .before .before .before .before .before .before .before .before .before .before .before .before .before .before .before .load .kept .1 .1 .1 .1 .1 .1 .0) (c .before .before .before .before .before .before .before .before .before .before .before .before .before .before .before .before .before .before .before .before .before .before .before .load .kept .1 .1 .1 .1 .1 .1 .1 .0) (c .before .before .before .before .before .before .before .before .before .before .before .before .before .before .before .before .before .before .before .before .before .before .before .load .kept .1 .1 .1 .1 .1 .1 .1 .1 .0) (c .before .before .before .before .before .before .before .before .before .before .before .before .before .before .before .before .before .before .before .before .before .before .before .load .kept .1 .1 .1 .1 .1 .1 .1 .1 .1 .0))), omega (arith, c .before .before .before .before .before .before .before .before .before .before .if1 .left))
+lay-best-requires c κs =
+    let loads = c .before .before .before .before .before .before .before .before .before .before .before .before .before .before .before .before .before .before .before .before .before .before .load in
+    let told = c .before .before .before .before .before .before .before .before .before .before .before .loaded2 .given in
+    let file = c .before .before .before .before .before .before .before .before .before .before .before .before .before .before .before .before .before .before .before .before .before .before .before .before .before .before .before .before .before .before .before .before .before .before .args .file .now in
+    (file, held-file file _ _ _ _ _ _ _ _ (rw (told .1) at (loads .ensures)) (loads .kept .1 .0) (loads .kept .1 .1 .0) (loads .kept .1 .1 .1 .0) (loads .kept .1 .1 .1 .1 .0) (loads .kept .1 .1 .1 .1 .1 .0) (loads .kept .1 .1 .1 .1 .1 .1 .0) (loads .kept .1 .1 .1 .1 .1 .1 .1 .0) (loads .kept .1 .1 .1 .1 .1 .1 .1 .1 .0) (loads .kept .1 .1 .1 .1 .1 .1 .1 .1 .1 .0))
 
-returns-2 : tie.Need-returns-2
-returns-2 c = (loading-refused (c .before .before .loaded .given .0 .0) _ (rw (c .before .before .loaded .given .1) at (c .before .before .before .before .before .before .before .before .before .before .before .before .before .load .ensures)) (c .refused .ensures), nothing-saved _ (c .refused .ensures))
+returns : tie.Need-returns
+returns c =
+    let told = c .before .before .loaded .given in
+    (loading-refused (told .0 .0) _ (rw (told .1) at (c .before .before .before .before .before .before .before .before .before .before .before .before .before .load .ensures)) (c .refused .ensures), nothing-saved _ (c .refused .ensures))
 
 same-length : tie.Need-same-length
 same-length c = search needs
 
-returns-3 : tie.Need-returns-3
-returns-3 c = (c .before .before .lay-best .ensures .0 (c .before .before .before .before .before .before .before .before .before .before .before .before .before .before .before .before .before .before .before .before .before .before .before .before .before .before .before .before .before .before .before .before .before .before .before .before .before .before .args .file .now) (held-file (c .before .before .before .before .before .before .before .before .before .before .before .before .before .before .before .before .before .before .before .before .before .before .before .before .before .before .before .before .before .before .before .before .before .before .before .before .before .before .args .file .now) (c .before .before .before .before .before .before .before .before .before .before .before .before .before .before .before .loaded2 .given .0 .0) (c .before .before .before .before .before .before .before .before .before .before .before .before .before .before .before .loaded2 .given .0 .1 .0) (c .before .before .before .before .before .before .before .before .before .before .before .before .before .before .before .loaded2 .given .0 .1 .1 .0) (c .before .before .before .before .before .before .before .before .before .before .before .before .before .before .before .loaded2 .given .0 .1 .1 .1 .0) (c .before .before .before .before .before .before .before .before .before .before .before .before .before .before .before .loaded2 .given .0 .1 .1 .1 .1 .0) (gate-arrays (c .before .before .before .before .before .before .before .before .before .before .before .before .before .before .before .before .before .before .before .before .before .before .before .before .before .before .load .last .1 .0) (c .before .before .before .before .before .before .before .before .before .before .before .before .before .before .before .before .before .before .before .before .before .before .before .before .before .before .load .last .1 .1 .0) (c .before .before .before .before .before .before .before .before .before .before .before .before .before .before .before .before .before .before .before .before .before .before .before .before .before .before .load .last .1 .1 .1 .0) (c .before .before .before .before .before .before .before .before .before .before .before .before .before .before .before .before .before .before .before .before .before .before .before .before .before .before .load .last .1 .1 .1 .1 .0) (c .before .before .before .before .before .before .before .before .before .before .before .before .before .before .before .before .before .before .before .before .before .before .before .before .before .before .load .last .1 .1 .1 .1 .1 .0)) (wire-arrays (c .before .before .before .before .before .before .before .before .before .before .before .before .before .before .before .before .before .before .before .before .before .before .before .before .before .before .load .last .1 .1 .1 .1 .1 .1 .0) (c .before .before .before .before .before .before .before .before .before .before .before .before .before .before .before .before .before .before .before .before .before .before .before .before .before .before .load .last .1 .1 .1 .1 .1 .1 .1 .0) (c .before .before .before .before .before .before .before .before .before .before .before .before .before .before .before .before .before .before .before .before .before .before .before .before .before .before .load .last .1 .1 .1 .1 .1 .1 .1 .1 .0)) (c .before .before .before .before .before .before .before .before .before .before .before .before .before .before .before .before .before .before .before .before .before .before .before .before .before .before .load .last .1 .1 .1 .1 .1 .1 .1 .1 .1 .0) (rw (c .before .before .before .before .before .before .before .before .before .before .before .before .before .before .before .loaded2 .given .1) at (c .before .before .before .before .before .before .before .before .before .before .before .before .before .before .before .before .before .before .before .before .before .before .before .before .before .before .load .ensures)) (c .before .before .before .before .before .before .before .before .before .before .before .before .before .before .before .before .before .before .before .before .before .before .before .before .before .before .load .kept .1 .0) (c .before .before .before .before .before .before .before .before .before .before .before .before .before .before .before .before .before .before .before .before .before .before .before .before .before .before .load .kept .1 .1 .0) (c .before .before .before .before .before .before .before .before .before .before .before .before .before .before .before .before .before .before .before .before .before .before .before .before .before .before .load .kept .1 .1 .1 .0) (c .before .before .before .before .before .before .before .before .before .before .before .before .before .before .before .before .before .before .before .before .before .before .before .before .before .before .load .kept .1 .1 .1 .1 .0) (c .before .before .before .before .before .before .before .before .before .before .before .before .before .before .before .before .before .before .before .before .before .before .before .before .before .before .load .kept .1 .1 .1 .1 .1 .0) (c .before .before .before .before .before .before .before .before .before .before .before .before .before .before .before .before .before .before .before .before .before .before .before .before .before .before .load .kept .1 .1 .1 .1 .1 .1 .0) (c .before .before .before .before .before .before .before .before .before .before .before .before .before .before .before .before .before .before .before .before .before .before .before .before .before .before .load .kept .1 .1 .1 .1 .1 .1 .1 .0) (c .before .before .before .before .before .before .before .before .before .before .before .before .before .before .before .before .before .before .before .before .before .before .before .before .before .before .load .kept .1 .1 .1 .1 .1 .1 .1 .1 .0) (c .before .before .before .before .before .before .before .before .before .before .before .before .before .before .before .before .before .before .before .before .before .before .before .before .before .before .load .kept .1 .1 .1 .1 .1 .1 .1 .1 .1 .0)), c .before .before .lay-best .ensures .1)
+returns-2 : tie.Need-returns-2
+returns-2 c =
+    let loads = c .before .before .before .before .before .before .before .before .before .before .before .before .before .before .before .before .before .before .before .before .before .before .before .before .before .load in
+    let told = c .before .before .before .before .before .before .before .before .before .before .before .before .before .before .loaded2 .given in
+    let file = c .before .before .before .before .before .before .before .before .before .before .before .before .before .before .before .before .before .before .before .before .before .before .before .before .before .before .before .before .before .before .before .before .before .before .before .before .before .args .file .now in
+    let lays = c .before .before .lay-best in
+    (lays .ensures .0 file (held-file file _ _ _ _ _ _ _ _ (rw (told .1) at (loads .ensures)) (loads .kept .1 .0) (loads .kept .1 .1 .0) (loads .kept .1 .1 .1 .0) (loads .kept .1 .1 .1 .1 .0) (loads .kept .1 .1 .1 .1 .1 .0) (loads .kept .1 .1 .1 .1 .1 .1 .0) (loads .kept .1 .1 .1 .1 .1 .1 .1 .0) (loads .kept .1 .1 .1 .1 .1 .1 .1 .1 .0) (loads .kept .1 .1 .1 .1 .1 .1 .1 .1 .1 .0)), lays .ensures .1)
 
 pub honduvi-best-increases-spec : {M : Type 1} → statement M
-honduvi-best-increases-spec = tie.close (tie.spec slice-aggregate-load slice-aggregate-load-2 slice-aggregate-load-3 slice-aggregate-load-4 slice-aggregate-load-5 slice-aggregate-load-6 slice-aggregate-load-7 slice-aggregate-load-8 slice-aggregate-load-9 load-requires enum-known-loaded refused-requires enum-known-loaded-2 mul-needed refused-requires-2 returns slice-aggregate-lay-best slice-aggregate-lay-best-2 slice-aggregate-lay-best-3 slice-aggregate-lay-best-4 slice-aggregate-lay-best-5 slice-aggregate-lay-best-6 lay-best-requires returns-2 same-length returns-3)
+honduvi-best-increases-spec = tie.close (tie.spec slice-aggregate-load slice-aggregate-load-2 slice-aggregate-load-3 slice-aggregate-load-4 slice-aggregate-load-5 slice-aggregate-load-6 slice-aggregate-load-7 slice-aggregate-load-8 slice-aggregate-load-9 load-requires enum-known-loaded refused-requires enum-known-loaded-2 slice-aggregate-lay-best slice-aggregate-lay-best-2 slice-aggregate-lay-best-3 slice-aggregate-lay-best-4 slice-aggregate-lay-best-5 slice-aggregate-lay-best-6 lay-best-requires returns same-length returns-2)

@@ -3,7 +3,8 @@
 use borrow.Author.Needs.{needs}
 use mathlib.Core.Path.{subst}
 use borrow.Author.Tests.{not-true, not-false}
-use Rattle.network.specs.Judged.{OrderFound, FaultFound}
+use Rattle.ordering.specs.Order.{OrderFound}
+use Rattle.network.specs.Judged.{FaultFound}
 use Rattle.network.proofs.Judgement.{lowest-found, sound-judged, ends-judged}
 use Rattle.network.proofs.judge_network.Statement.{statement}
 use Rattle.network.proofs.judge_network.Tie as tie

@@ -3,8 +3,8 @@ use mathlib.Core.Path.{_≡_, refl, _∙_}
 use Prim.Native.Nat.{_≤_, _<_, _-_}
 use native.Mathlib.Omega.{arith}
 use lib.ListN.{length, length-set}
-use Rattle.network.specs.Order.{SameBeyond}
-use Rattle.network.proofs.Front.{set-beyond, front-written}
+use Rattle.ordering.specs.Order.{SameBeyond}
+use Rattle.ordering.proofs.Front.{set-beyond, front-written}
 use Rattle.gains.specs.Activities.{brought-by}
 use Rattle.gains.proofs.Activities.{Brought, brought-none, brought-more, sum-fits}
 use Rattle.gains.proofs.inputs.add_wires.Statement.{statement}

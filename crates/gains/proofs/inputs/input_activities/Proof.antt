@@ -3,7 +3,7 @@ use mathlib.Core.Path.{_∙_}
 use Prim.Native.Nat.{ℕ}
 use native.Mathlib.Omega.{arith}
 use lib.ListN.{length-set}
-use Rattle.network.proofs.Front.{front-at}
+use Rattle.ordering.proofs.Front.{front-at}
 use Rattle.gains.proofs.Activities.{input-set, still-summable}
 use Rattle.gains.proofs.inputs.input_activities.Statement.{statement}
 use Rattle.gains.proofs.inputs.input_activities.Tie as tie

@@ -2,7 +2,7 @@
 use Prim.Native.Nat.{ℕ, _≤_, _<_, _-_}
 use native.Mathlib.Omega.{arith}
 use borrow.Author.Count.{below-more}
-use Rattle.network.proofs.Marks.{first-none, first-found}
+use Rattle.ordering.proofs.Marks.{first-none, first-found}
 use Rattle.gains.proofs.Exceeding.{Over, lowest-exceeding}
 use Rattle.gains.proofs.steps.lowest_exceeding.Statement.{statement}
 use Rattle.gains.proofs.steps.lowest_exceeding.Tie as tie

@@ -5,7 +5,7 @@ use Prim.Native.Nat.{ℕ, _≤_, _<_, _-_}
 use native.Mathlib.Omega.{arith}
 use borrow.Author.Count.{below-none, below-more}
 use Rattle.network.specs.Misplaced.{Faulty}
-use Rattle.network.proofs.Marks.{first-none, first-found}
+use Rattle.ordering.proofs.Marks.{first-none, first-found}
 use Rattle.network.proofs.ends.first_faulty.Statement.{statement}
 use Rattle.network.proofs.ends.first_faulty.Tie as tie
 

@@ -1,0 +1,164 @@
+-- The lines of the layout editor's call, from what loading, the room and the best increases of the block say.
+-- The idea: the lines from 11 on are those of the best increases with other memory, and an accepted list is what stands in front of the call's own list.
+-- Assumes nothing.
+use mathlib.Core.Path.{_≡_, refl, sym, _∙_, ap}
+use mathlib.Core.List.{List, [], _∷_}
+use Prim.Native.Nat.{ℕ, _*_, _^_, _<_, _≤_}
+use native.Mathlib.Omega.{arith}
+use lib.ListN.{length, getD, take}
+use lib.IntN.{pos}
+use lib.Signed.{_<ℤ_}
+use Rattle.lists.specs.Over.{over}
+use Rattle.lists.proofs.Over.{take-over}
+use Rattle.model.specs.declared.Refusal.{Refusal}
+use Rattle.model.specs.declared.Refusal.the-variants.{Short, Tag, Length, Range, Drops, Wire, Excess, Loop, Ends, Room, NotSeriesParallel, Late, Widths, PathLate}
+use Rattle.model.specs.Limits.{max-gates}
+use Rattle.model.specs.Block.{Block, gate-count}
+use Rattle.model.specs.Gain.{saving}
+use Rattle.model.specs.Best.{Best}
+use Rattle.model.specs.Part.{SeriesParallel}
+use Rattle.model.specs.Slack.{spare}
+use Rattle.model.specs.Refusal.{IllFormed}
+use Rattle.model.specs.Answer.{Answer, accepted, refusal, refusal-answer, Outcome, Line, fits, passes, At, well-formed, BestLines, best}
+use Rattle.model.specs.Layout.{increase-bytes, list-bytes, layout-answer, NoSavingRefused, GivesLayout, laid, AnswersLayout}
+use Rattle.model.proofs.Limited.{read-limits}
+use Rattle.blockfile.specs.Held.{GateArrays, WireArrays}
+use Rattle.loading.specs.Loads.{block-held, number-of, place-of}
+use Rattle.loading.specs.HeldFile.{HeldFile}
+use Rattle.loading.proofs.Held.{gates-are}
+use Rattle.loading.proofs.Refused.{refusal-is, passed-on}
+use Rattle.laying.specs.declared.answer.LayoutAnswer.{LayoutAnswer}
+use Rattle.laying.specs.Answered.{refused-as, leaves}
+
+abbrev with-memory : Answer → List ℕ → Outcome (List ℕ)
+with-memory a after = record { answer = a; memory = after }
+
+-- REFUSALS
+
+-- a refusal's number and place say the refusal
+told : (x : Refusal) → layout-answer (number-of x) (place-of x) 0 ≡ refusal-answer x
+told (Short o) = refl
+told (Tag o) = refl
+told (Length o) = refl
+told (Range o) = refl
+told (Drops o) = refl
+told (Wire o) = refl
+told (Excess o) = refl
+told (Loop g) = refl
+told (Ends g) = refl
+told (Room n) = refl
+told NotSeriesParallel = refl
+told Late = refl
+told (Widths g) = refl
+told PathLate = refl
+
+refused-leaves : (x : Refusal) (r : LayoutAnswer) (lent : List ℕ) → r ≡ refused-as (number-of x) (place-of x)
+    → leaves r lent ≡ with-memory (refusal-answer x) lent
+refused-leaves x r lent e =
+    ap (λ (a : LayoutAnswer). leaves a lent) e ∙ ap (λ (a : Answer). with-memory a lent) (told x)
+
+pub nothing-saved : {k p : ℕ} (r : LayoutAnswer) → r ≡ refused-as k p → NoSavingRefused (r .number) (r .saving)
+nothing-saved r e refused = ap (λ (a : LayoutAnswer). a .saving) e
+
+-- 1 to 9, as loading finds them
+pub loading-refused : {file lent : List ℕ} (x : Refusal) (r : LayoutAnswer)
+    → IllFormed file (number-of x) (place-of x)
+    → r ≡ refused-as (number-of x) (place-of x)
+    → AnswersLayout file lent (leaves r lent)
+loading-refused {lent = lent} x r ill e = rw (refused-leaves x r lent e) (passed-on x ill)
+
+-- THE LINES FROM 11 ON
+abbrev LayoutLines : Block → List ℕ → Outcome (List ℕ) → Type 0
+LayoutLines B lent =
+    Line lent 11 (At 0 (¬ (SeriesParallel B)))
+    (Line lent 12 (At 0 (SeriesParallel B × (spare B <ℤ pos 0))) (GivesLayout B lent))
+
+-- a refusal has one value, an accepted answer of the best increases two
+refused-not-given : {A : Type 0} {s n : ℕ} {after other : List ℕ} (x : Refusal)
+    → with-memory (refusal-answer x) after ≡ with-memory (accepted (s ∷ n ∷ [])) other
+    → A
+refused-not-given x e =
+    let two = ap (λ (o : Outcome (List ℕ)). length (o .answer .values)) e in
+    let one = ap (λ (a : Answer). length (a .values)) (refusal-is x) in
+    absurd (omega arith)
+
+given-not-refused : {A : Type 0} {s n k p : ℕ} {after other : List ℕ}
+    → with-memory (accepted (s ∷ n ∷ [])) after ≡ with-memory (refusal k p) other
+    → A
+given-not-refused e =
+    let two = ap (λ (o : Outcome (List ℕ)). length (o .answer .values)) e in
+    absurd (omega arith)
+
+same-refusal : {k p : ℕ} {after other : List ℕ} (x : Refusal) (lent : List ℕ)
+    → with-memory (refusal-answer x) after ≡ with-memory (refusal k p) other
+    → with-memory (refusal-answer x) lent ≡ with-memory (refusal k p) lent
+same-refusal x lent e = ap (λ (o : Outcome (List ℕ)). with-memory (o .answer) lent) e
+
+-- the best list stands in front of the call's own
+in-front : {B : Block} {after : List ℕ} (n : ℕ) (y list : List ℕ) → gate-count B ≡ n → Best B y → after ≡ over y list → take n after ≡ y
+in-front n y list count b e =
+    let l : length y ≡ n = b .is-ok .one-each ∙ count in
+    rw (e, ← l) (take-over y list)
+
+module _ {B : Block} {list after : List ℕ} where
+  lines-refused : (x : Refusal) (lent : List ℕ)
+      → BestLines B list (with-memory (refusal-answer x) after)
+      → LayoutLines B lent (with-memory (refusal-answer x) lent)
+  lines-refused x lent (fits p w e) = fits p w (same-refusal x lent e)
+  lines-refused x lent (passes none (fits p w e)) = passes none (fits p w (same-refusal x lent e))
+  lines-refused x lent (passes none (passes early (best y sp b e))) = refused-not-given x e
+
+  -- the place of 11 and of 12 is 0
+  pub best-place : (x : Refusal) → BestLines B list (with-memory (refusal-answer x) after) → place-of x < 2 ^ 32
+  best-place x (fits p w e) =
+      let is = ap (λ (o : Outcome (List ℕ)). getD (o .answer .values) 0 0) e in omega (arith, w .0)
+  best-place x (passes none (fits p w e)) =
+      let is = ap (λ (o : Outcome (List ℕ)). getD (o .answer .values) 0 0) e in omega (arith, w .0)
+  best-place x (passes none (passes early (best y sp b e))) = refused-not-given x e
+
+  lines-given : (n s k : ℕ) (lent : List ℕ) → gate-count B ≡ n
+      → BestLines B list (with-memory (accepted (s ∷ k ∷ [])) after)
+      → LayoutLines B lent (with-memory (layout-answer 0 n s) (over (list-bytes (take n after)) lent))
+  lines-given n s k lent count (fits p w e) = given-not-refused e
+  lines-given n s k lent count (passes none (fits p w e)) = given-not-refused e
+  lines-given n s k lent count (passes none (passes early (best y sp b e))) =
+      let saves : s ≡ saving B y = ap (λ (o : Outcome (List ℕ)). getD (o .answer .values) 0 0) e in
+      let stands = in-front n y list count b (ap (λ (o : Outcome (List ℕ)). o .memory) e) in
+      passes none (passes early (laid y sp b (rw (stands, saves, count) refl)))
+
+-- THE CALL
+module _ {file : List ℕ} {n m arrival deadline activity : ℕ} {G : GateArrays} {W : WireArrays} {order : List ℕ} (held : HeldFile file n m arrival deadline activity G W order) where
+  abbrev B : Block
+  B = block-held n m arrival deadline activity G W
+
+  abbrev count : gate-count B ≡ n
+  count = gates-are file n m arrival deadline activity G W (held .well .end) (held .well .reads)
+
+  pub gates-most : n ≤ max-gates
+  gates-most = rw count at (read-limits file (held .well .reads) .gates-most)
+
+  -- 10: fewer bytes than four an increase
+  pub no-room : (lent : List ℕ) (r : LayoutAnswer) → r ≡ refused-as 10 (increase-bytes * n) → length lent < increase-bytes * n → AnswersLayout file lent (leaves r lent)
+  no-room lent r e short =
+      rw (refused-leaves (Room (increase-bytes * n)) r lent e)
+      (well-formed B (held .well) (fits (increase-bytes * n) (ap (λ (k : ℕ). increase-bytes * k) (sym count), omega (arith, count)) refl))
+
+  with-room : {lent : List ℕ} {o : Outcome (List ℕ)} → increase-bytes * n ≤ length lent → LayoutLines B lent o → AnswersLayout file lent o
+  with-room {lent} room lines =
+      well-formed B (held .well)
+      (passes (λ (p : ℕ) (s : (p ≡ increase-bytes * gate-count B) × (length lent < increase-bytes * gate-count B)). omega (arith, s .1, count)) lines)
+
+  -- 11 and 12, as the best increases are refused
+  pub best-refused : {list after : List ℕ} (x : Refusal) (r : LayoutAnswer) (lent : List ℕ)
+      → increase-bytes * n ≤ length lent
+      → BestLines B list (with-memory (refusal-answer x) after)
+      → r ≡ refused-as (number-of x) (place-of x)
+      → AnswersLayout file lent (leaves r lent)
+  best-refused x r lent room lines e = rw (refused-leaves x r lent e) (with-room room (lines-refused x lent lines))
+
+  pub best-given : {list after : List ℕ} (s k : ℕ) (lent bytes : List ℕ)
+      → increase-bytes * n ≤ length lent
+      → BestLines B list (with-memory (accepted (s ∷ k ∷ [])) after)
+      → bytes ≡ over (list-bytes (take n after)) lent
+      → AnswersLayout file lent (with-memory (layout-answer 0 n s) bytes)
+  best-given s k lent bytes room lines e = rw e (with-room room (lines-given n s k lent count lines))

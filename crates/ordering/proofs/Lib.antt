@@ -1,0 +1,13 @@
+pub mod Reach
+pub mod Loop
+pub mod Pigeonhole
+pub mod Placing
+pub mod Marks
+pub mod Wires
+pub mod Front
+pub mod Chains
+pub mod Counts
+pub mod Passing
+pub mod Turns
+pub mod Answers
+pub mod OrderOrLoop
