@@ -1,5 +1,5 @@
 pub mod TreeLaws
 pub mod CountLaws
-pub mod HeldLaws
+pub mod Plantable
 pub mod PlantedLaws
 pub mod Lines

@@ -14,7 +14,7 @@ use Rattle.model.proofs.SameDelays.{source-same}
 use Rattle.network.proofs.Front.{front-at}
 use Rattle.timing.specs.Times.{Timeable, source-in, LatestTimes}
 use Rattle.timing.proofs.Found.{along, source-bounded}
-use Rattle.resizing.specs.Slowed.{Addable, slowed-delay, Added, Lasting, Lasts}
+use Rattle.judging.specs.Slowed.{Addable, slowed-delay, Added, Lasting, Lasts}
 
 -- one gate more is slowed
 pub added-more : (k : ℕ) (delays increases before slowed : List ℕ) → k < length before → Added k delays increases before slowed → Added (k + 1) delays increases before (set slowed k (slowed-delay delays increases k))

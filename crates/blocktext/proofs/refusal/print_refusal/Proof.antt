@@ -1,7 +1,7 @@
--- `printing::refusal::print_refusal` meets its contract: the two numbers are those of the refusal. Assumes nothing.
+-- `blocktext::refusal::print_refusal` meets its contract: the two numbers are those of the refusal. Assumes nothing.
 use borrow.Author.Needs.{needs}
-use Rattle.printing.proofs.refusal.print_refusal.Statement.{statement}
-use Rattle.printing.proofs.refusal.print_refusal.Tie as tie
+use Rattle.blocktext.proofs.refusal.print_refusal.Statement.{statement}
+use Rattle.blocktext.proofs.refusal.print_refusal.Tie as tie
 
 numbers-of-requires : tie.Need-numbers-of-requires
 numbers-of-requires c κs = search needs

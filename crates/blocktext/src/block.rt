@@ -12,8 +12,7 @@ ghost use Rattle.blockfile.specs.Held.{gate-arrays, wire-arrays};
 ghost use Rattle.loading.specs.Loads.{block-held};
 ghost use Rattle.loading.specs.HeldFile.{HeldFile};
 ghost use Rattle.text.specs.Written.{Written};
-ghost use Rattle.printing.specs.PrintoutIn.{printout-room};
-ghost use Rattle.printing.specs.Shown.{Sized};
+ghost use Rattle.blocktext.specs.Shown.{Sized, printout-room};
 
 // Writes the printout of a block in time, with these increases and what they save, to the front of `out` and answers its length.
 pub fn print_block(
