@@ -23,9 +23,9 @@ use Rattle.holding.proofs.HeldLaws.{block, count, the-limits, along-all, some}
 use Rattle.optimum.specs.BlockTree.{block-tree, start-of, pairs-of}
 use Rattle.optimum.proofs.Optimum as Optimum
 use Rattle.shaping.proofs.Facts.{join, descending}
-use Rattle.answers.specs.declared.tree.TreeCurve.{TreeCurve}
-use Rattle.answers.specs.TreeHeld.{TreeArrays, TreeHeld, CurveFound, IncreasesFound}
-use Rattle.answers.proofs.CountLaws.{pairs-short, gains-few}
+use Rattle.spending.specs.declared.tree.TreeCurve.{TreeCurve}
+use Rattle.spending.specs.TreeHeld.{TreeArrays, TreeHeld, CurveFound, IncreasesFound}
+use Rattle.spending.proofs.CountLaws.{pairs-short, gains-few}
 use Rattle.answers.proofs.Plantable.{start-same}
 
 -- a list of n elements put in front of what stands behind the first n

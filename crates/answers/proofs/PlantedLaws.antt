@@ -29,7 +29,7 @@ use Rattle.sizing.specs.Raise.{delays-in}
 use Rattle.sizing.proofs.Blocks.{Held, delays-are}
 use Rattle.shaping.specs.PlantedBlock.{NodesLong, PlantedBlock}
 use Rattle.shaping.proofs.Facts.{join}
-use Rattle.answers.specs.TreeHeld.{tree-arrays, TreeHeld}
+use Rattle.spending.specs.TreeHeld.{tree-arrays, TreeHeld}
 use Rattle.answers.proofs.Plantable.{start-same}
 
 module _

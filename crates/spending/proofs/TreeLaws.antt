@@ -41,8 +41,8 @@ use Rattle.heads.proofs.Locals.{gate-below}
 use Rattle.sizing.proofs.Starting.{root-curvable}
 use Rattle.sizing.proofs.Spent.{whole-curve}
 use Rattle.shaping.proofs.Facts.{join, no-wire-twice, descending, ranges}
-use Rattle.answers.specs.declared.tree.TreeCurve.{TreeCurve}
-use Rattle.answers.specs.TreeHeld.{TreeArrays, TreeHeld, tree-plan, RunsFound, CurveFound}
+use Rattle.spending.specs.declared.tree.TreeCurve.{TreeCurve}
+use Rattle.spending.specs.TreeHeld.{TreeArrays, TreeHeld, tree-plan, RunsFound, CurveFound}
 
 -- heads for so many places are stored
 pub record Places (H : Stored) (n : ℕ) : Type 0 where

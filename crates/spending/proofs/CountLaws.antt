@@ -17,9 +17,9 @@ use Rattle.sizing.proofs.Blocks.{heads-are}
 use Rattle.sizing.proofs.Spent.{spent-increases, spent-earns}
 use Rattle.curve.specs.Position.{pairs-in}
 use Rattle.shaping.proofs.Facts.{join, no-wire-twice, descending, ranges}
-use Rattle.answers.specs.declared.tree.TreeCurve.{TreeCurve}
-use Rattle.answers.specs.TreeHeld.{TreeArrays, TreeHeld, RunsFound, IncreasesFound}
-use Rattle.answers.proofs.TreeLaws.{is-tree, gates-few, saved-is, steps-are, steps-few}
+use Rattle.spending.specs.declared.tree.TreeCurve.{TreeCurve}
+use Rattle.spending.specs.TreeHeld.{TreeArrays, TreeHeld, RunsFound, IncreasesFound}
+use Rattle.spending.proofs.TreeLaws.{is-tree, gates-few, saved-is, steps-are, steps-few}
 
 -- k ticks counted off earn at most k times the greatest gain
 count-off-most : (g : ℕ) (ps : List Pair) → ((p : Pair) → List·Memᴰ p ps → p .gain ≤ g) → (k : ℕ) → count-off ps k ≤ k * g

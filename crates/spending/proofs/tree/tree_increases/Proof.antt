@@ -1,9 +1,9 @@
--- `answers::tree::tree_increases` meets its contract: what the ticks earn is counted off the pairs of their runs. Assumes nothing.
+-- `spending::tree::tree_increases` meets its contract: what the ticks earn is counted off the pairs of their runs. Assumes nothing.
 use borrow.Author.Needs.{needs}
 use native.Mathlib.Omega.{arith}
-use Rattle.answers.proofs.CountLaws.{sum-fits, increases-found}
-use Rattle.answers.proofs.tree.tree_increases.Statement.{statement}
-use Rattle.answers.proofs.tree.tree_increases.Tie as tie
+use Rattle.spending.proofs.CountLaws.{sum-fits, increases-found}
+use Rattle.spending.proofs.tree.tree_increases.Statement.{statement}
+use Rattle.spending.proofs.tree.tree_increases.Tie as tie
 
 slice-aggregate-tree-runs : tie.Need-slice-aggregate-tree-runs
 slice-aggregate-tree-runs c = search needs

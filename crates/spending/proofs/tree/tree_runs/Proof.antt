@@ -1,10 +1,10 @@
--- `answers::tree::tree_runs` meets its contract: ticks spent from the raised start on, and their runs noted. Assumes nothing.
+-- `spending::tree::tree_runs` meets its contract: ticks spent from the raised start on, and their runs noted. Assumes nothing.
 use borrow.Author.Needs.{needs}
 use mathlib.Core.Path.{_∙_}
 use native.Mathlib.Omega.{arith}
-use Rattle.answers.proofs.TreeLaws.{gates-few, counts-small, steps-lent, sizable, measurable, list-is, earnable, steps-few, curvable}
-use Rattle.answers.proofs.tree.tree_runs.Statement.{statement}
-use Rattle.answers.proofs.tree.tree_runs.Tie as tie
+use Rattle.spending.proofs.TreeLaws.{gates-few, counts-small, steps-lent, sizable, measurable, list-is, earnable, steps-few, curvable}
+use Rattle.spending.proofs.tree.tree_runs.Statement.{statement}
+use Rattle.spending.proofs.tree.tree_runs.Tie as tie
 
 slice-aggregate-start : tie.Need-slice-aggregate-start
 slice-aggregate-start c = search needs

@@ -16,7 +16,7 @@ ghost use lib.ListN.{length, getD};
 ghost use Rattle.lists.specs.Sum.{sum};
 ghost use Rattle.model.specs.Limits.{max-gates, max-steps, max-pairs, max-time};
 ghost use Rattle.model.specs.Block.{Block};
-ghost use Rattle.answers.specs.TreeHeld.{tree-arrays, TreeHeld, RunsFound, CurveFound, IncreasesFound};
+ghost use Rattle.spending.specs.TreeHeld.{tree-arrays, TreeHeld, RunsFound, CurveFound, IncreasesFound};
 
 // What is found of a curve, besides its pairs: the saving at start, and how many pairs there are.
 pub struct TreeCurve {

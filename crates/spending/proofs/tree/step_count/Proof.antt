@@ -1,4 +1,4 @@
--- `answers::tree::step_count` meets its contract: the steps of the first g gates are added up. Assumes nothing.
+-- `spending::tree::step_count` meets its contract: the steps of the first g gates are added up. Assumes nothing.
 use mathlib.Core.Path.{_≡_, refl}
 use Prim.Native.Nat.{ℕ, _≤_, _*_, _-_}
 use native.Mathlib.Omega.{arith}
@@ -6,8 +6,8 @@ use lib.ListN.{getD}
 use Rattle.lists.specs.Sum.{sum}
 use Rattle.model.specs.Limits.{max-steps}
 use Rattle.gains.proofs.Sums.{sum-more}
-use Rattle.answers.proofs.tree.step_count.Statement.{statement}
-use Rattle.answers.proofs.tree.step_count.Tie as tie
+use Rattle.spending.proofs.tree.step_count.Statement.{statement}
+use Rattle.spending.proofs.tree.step_count.Tie as tie
 
 abbrev Inv-loop : tie.InvT-loop
 Inv-loop n counts steps₀ g₀ steps g = (g ≤ n) × (steps ≡ sum g (λ (j : ℕ). getD counts j 0)) × (steps ≤ g * max-steps)

@@ -20,7 +20,7 @@ use Rattle.heads.specs.Plan.{Plan, node-count, part, parent, heads-in, Shaped}
 use Rattle.sizing.specs.Raise.{root, delays-in}
 use Rattle.sizing.specs.Pairs.{Spent}
 use Rattle.sizing.proofs.Blocks.{Held}
-use Rattle.answers.specs.declared.tree.TreeCurve.{TreeCurve}
+use Rattle.spending.specs.declared.tree.TreeCurve.{TreeCurve}
 
 -- The arrays that stand while ticks are handed out: the tree's nodes with their parents, the gates' steps, input activities and delays.
 pub record TreeArrays : Type 0 where

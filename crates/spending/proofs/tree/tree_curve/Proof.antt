@@ -1,8 +1,8 @@
--- `answers::tree::tree_curve` meets its contract: with ticks for all steps, the runs noted are the curve's. Assumes nothing.
+-- `spending::tree::tree_curve` meets its contract: with ticks for all steps, the runs noted are the curve's. Assumes nothing.
 use native.Mathlib.Omega.{arith}
-use Rattle.answers.proofs.TreeLaws.{curve-found}
-use Rattle.answers.proofs.tree.tree_curve.Statement.{statement}
-use Rattle.answers.proofs.tree.tree_curve.Tie as tie
+use Rattle.spending.proofs.TreeLaws.{curve-found}
+use Rattle.spending.proofs.tree.tree_curve.Statement.{statement}
+use Rattle.spending.proofs.tree.tree_curve.Tie as tie
 
 tree-runs-requires : tie.Need-tree-runs-requires
 tree-runs-requires c κs = c .before .before .before .before .before .before .before .before .pre
