@@ -1,6 +1,6 @@
 -- The lines from 11 on for a held file's block: not series-parallel, late, or what was found of its tree.
 -- Assumes nothing.
-use mathlib.Core.Path.{_≡_, refl, sym, ap, subst}
+use mathlib.Core.Path.{_≡_, refl, sym, ap}
 use mathlib.Core.Logic.{_↔_}
 use mathlib.Core.List.{List, [], _∷_, _++_, map, List·Memᴰ, List·Memᴰ·head, List·Memᴰ·tail}
 use Prim.Native.Nat.{ℕ, zero, suc, _+_, _-_, _≤_, _<_}
@@ -15,18 +15,18 @@ use Rattle.model.specs.Block.{Block}
 use Rattle.model.specs.Part.{SeriesParallel}
 use Rattle.model.specs.Curve.{Pair}
 use Rattle.model.specs.Slack.{start, spare}
-use Rattle.model.specs.Answer.{accepted, refusal, Outcome, Line, fits, passes, At, curve, CurveLines, best, BestLines}
-use Rattle.model.proofs.Source.{Along}
+use Rattle.model.specs.Answer.{accepted, refusal, Outcome, Line, fits, passes, well-formed, At, curve, CurveLines, best, BestLines, AnswersBest}
 use Rattle.model.proofs.Slack.{late-is}
 use Rattle.blockfile.specs.Held.{GateArrays, WireArrays}
 use Rattle.loading.specs.HeldFile.{HeldFile}
+use Rattle.holding.proofs.HeldLaws.{block, count, the-limits, along-all, some}
 use Rattle.optimum.specs.BlockTree.{block-tree, start-of, pairs-of}
 use Rattle.optimum.proofs.Optimum as Optimum
 use Rattle.shaping.proofs.Facts.{join, descending}
-use Rattle.answers.specs.declared.tree.TreeCurve.{TreeCurve}
-use Rattle.answers.specs.TreeHeld.{TreeArrays, TreeHeld, CurveFound, IncreasesFound}
-use Rattle.answers.proofs.CountLaws.{pairs-short, gains-few}
-use Rattle.answers.proofs.HeldLaws.{block, count, the-limits, the-along, some, start-same}
+use Rattle.spending.specs.declared.tree.TreeCurve.{TreeCurve}
+use Rattle.spending.specs.TreeHeld.{TreeArrays, TreeHeld, CurveFound, IncreasesFound}
+use Rattle.spending.proofs.CountLaws.{pairs-short, gains-few}
+use Rattle.answers.proofs.Plantable.{start-same}
 
 -- a list of n elements put in front of what stands behind the first n
 pub in-front : (x lent : List ℕ) (n : ℕ) → length x ≡ n → x ++ drop n lent ≡ over x lent
@@ -38,9 +38,14 @@ pub unfit-line : {B : Block} {S : Type 0} {lent : S} {further : Outcome S → Ty
     → Line lent 11 (At 0 (¬ (SeriesParallel B))) further (record { answer = refusal 11 0; memory = lent })
 unfit-line none = fits 0 (refl, none) refl
 
+-- a slice that is long enough for the gates: the answer is that of the lines from 11 on
+pub best-answered : {file : List ℕ} {n m arrival deadline activity : ℕ} {G : GateArrays} {W : WireArrays} {order : List ℕ} (h : HeldFile file n m arrival deadline activity G W order)
+    {lent : List ℕ} {o : Outcome (List ℕ)} → n ≤ length lent → BestLines (block h) lent o → AnswersBest file lent o
+best-answered h long lines = well-formed (block h) (h .well) (passes (λ p s. omega (arith, s .1, count h)) lines)
+
 module _ {file : List ℕ} {n m arrival deadline activity : ℕ} {G : GateArrays} {W : WireArrays} {order : List ℕ} (h : HeldFile file n m arrival deadline activity G W order) (sp : SeriesParallel (block h)) where
   late-exactly : (spare (block h) <ℤ pos 0) ↔ (deadline < arrival + start (block h))
-  late-exactly = late-is (block h) (h .well .network) (subst (Along (block h .wires)) (sym (count h)) (the-along h)) (omega (arith, count h, some h))
+  late-exactly = late-is (block h) (h .well .network) (along-all h) (omega (arith, count h, some h))
 
   -- 12
   pub late-line : {lent : List ℕ} {r : ℕ} → r ≡ start (block h) → deadline < arrival + r → BestLines (block h) lent (record { answer = refusal 12 0; memory = lent })

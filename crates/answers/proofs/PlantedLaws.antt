@@ -16,6 +16,7 @@ use Rattle.blockfile.specs.Held.{GateArrays, WireArrays}
 use Rattle.timing.specs.Times.{time-bound}
 use Rattle.gains.specs.Activities.{InputActivities}
 use Rattle.loading.specs.HeldFile.{HeldFile}
+use Rattle.holding.proofs.HeldLaws.{block, count, the-limits, the-lent, inputs-are}
 use Rattle.optimum.specs.BlockTree.{block-tree, start-of, IsTree}
 use Rattle.optimum.specs.Tree.{zeros, longest}
 use Rattle.optimum.proofs.BlockTree.{block-is-tree}
@@ -28,8 +29,8 @@ use Rattle.sizing.specs.Raise.{delays-in}
 use Rattle.sizing.proofs.Blocks.{Held, delays-are}
 use Rattle.shaping.specs.PlantedBlock.{NodesLong, PlantedBlock}
 use Rattle.shaping.proofs.Facts.{join}
-use Rattle.answers.specs.TreeHeld.{tree-arrays, TreeHeld}
-use Rattle.answers.proofs.HeldLaws.{block, count, the-limits, the-lent, start-same, inputs-are}
+use Rattle.spending.specs.TreeHeld.{tree-arrays, TreeHeld}
+use Rattle.answers.proofs.Plantable.{start-same}
 
 module _
     {file : List ℕ}

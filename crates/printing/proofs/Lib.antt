@@ -1,4 +1,3 @@
 pub mod Unique
 pub mod Outcome
-pub mod InTime
 pub mod HeldLaws

@@ -7,7 +7,8 @@ use Prim.Native.Nat.{ℕ, _≤_, _<_}
 use native.Mathlib.Omega.{arith}
 use lib.ListN.{length}
 use Rattle.lists.proofs.Compare.{le-or-lt}
-use Rattle.printing.specs.PrintoutIn.{printout-room, Printed, PrintoutIn}
+use Rattle.blocktext.specs.Shown.{printout-room}
+use Rattle.printing.specs.PrintoutIn.{Printed, PrintoutIn}
 
 pub nothing-in : {file old : List ℕ} → length old < printout-room → PrintoutIn file old old 0
 nothing-in short = record { no-room = λ s. (refl, refl); room = λ l. absurd (omega arith) }

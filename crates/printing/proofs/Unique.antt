@@ -16,7 +16,8 @@ use Rattle.model.specs.InTime.{no-increase}
 use Rattle.model.specs.Answer.{Outcome}
 use Rattle.model.specs.Printout.{Printout, refused, printed}
 use Rattle.model.proofs.Answer.{answers-best-unique}
-use Rattle.printing.specs.PrintoutIn.{printout-room, Printed, PrintoutIn}
+use Rattle.blocktext.specs.Shown.{printout-room}
+use Rattle.printing.specs.PrintoutIn.{Printed, PrintoutIn}
 
 -- how many values an outcome's answer has: a refusal one, the best increases two
 abbrev values-count : Outcome (List ℕ) → ℕ

@@ -1,2 +1,1 @@
 pub mod PrintoutIn
-pub mod Shown

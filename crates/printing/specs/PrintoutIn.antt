@@ -5,11 +5,7 @@ use Prim.Native.Nat.{ℕ, _≤_, _<_}
 use lib.ListN.{length}
 use Rattle.lists.specs.Over.{over}
 use Rattle.model.specs.Printout.{Printout}
-use Rattle.text.specs.Written.{block-room}
-
--- the bytes that are enough for the printout of any file
-abbrev pub printout-room : ℕ
-printout-room = block-room
+use Rattle.blocktext.specs.Shown.{printout-room}
 
 -- The printout of the file stands at the front of the slice, the bytes behind it are as before, and r is its length.
 pub record Printed (file old new : List ℕ) (r : ℕ) : Type 0 where

@@ -1,7 +1,7 @@
 // The printout of a well-formed file's block, which is in the arrays.
-use crate::block::print_block;
-use crate::refusal::print_refusal;
 use answers::best_lines::best_held;
+use blocktext::block::print_block;
+use blocktext::refusal::print_refusal;
 use model::BestAnswer;
 use model::limits::GateNumbers;
 use model::limits::MAX_GATES;
@@ -11,7 +11,8 @@ ghost use Prim.Native.Nat.{ℕ, _≤_};
 ghost use lib.ListN.{length};
 ghost use Rattle.blockfile.specs.Held.{gate-arrays, wire-arrays};
 ghost use Rattle.loading.specs.HeldFile.{HeldFile};
-ghost use Rattle.printing.specs.PrintoutIn.{printout-room, Printed};
+ghost use Rattle.blocktext.specs.Shown.{printout-room};
+ghost use Rattle.printing.specs.PrintoutIn.{Printed};
 
 // Writes the printout of the file to the front of `out` and answers its length: its block with the best increases, or refusal 11 or 12.
 pub fn print_held(

@@ -1,10 +1,8 @@
 // The printout of a block file, written into a lent slice of bytes. Its promise settles the answer and every byte afterwards, for any file and any slice.
-mod block;
 mod held;
-mod refusal;
 
 use crate::held::print_held;
-use crate::refusal::print_refusal;
+use blocktext::refusal::print_refusal;
 use loading::Loaded;
 use loading::load;
 use model::limits::MAX_GATES;

@@ -1,4 +1,2 @@
 pub mod SlacksLaws
-pub mod Slowing
-pub mod JudgeLaws
 pub mod CallLaws

@@ -2,5 +2,4 @@
 pub mod best;
 pub mod curve;
 pub mod judge;
-mod longest;
 pub mod slacks;

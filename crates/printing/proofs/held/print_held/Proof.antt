@@ -1,6 +1,6 @@
 -- `printing::held::print_held` meets its contract: the best increases are found of the block, then their refusal or the block is printed. Assumes nothing.
 use borrow.Author.Needs.{needs}
-use Rattle.answers.proofs.HeldLaws.{the-lent}
+use Rattle.holding.proofs.HeldLaws.{the-lent}
 use Rattle.printing.proofs.HeldLaws.{line-printed, sized, block-printed}
 use Rattle.printing.proofs.held.print_held.Statement.{statement}
 use Rattle.printing.proofs.held.print_held.Tie as tie

@@ -1,0 +1,2 @@
+pub mod Slowing
+pub mod JudgeLaws

@@ -1,0 +1,85 @@
+-- The curve of a block whose tree stands in node arrays: it is no longer and its gains are no greater than document 01 says, and what ticks earn on the runs on which they are spent is what the increases save beyond the start.
+-- Assumes nothing.
+use mathlib.Core.Path.{_≡_, refl, sym, _∙_, ap}
+use mathlib.Core.List.{List, [], _∷_, List·Memᴰ, List·Memᴰ·head, List·Memᴰ·tail}
+use Prim.Native.Nat.{ℕ, _+_, _-_, _*_, _^_, _≤_, _<_, min, max}
+use native.Mathlib.Nat.{mul-le-mul-right, mul-le-mul-left, add-mul}
+use native.Mathlib.Omega.{arith}
+use lib.ListN.{length}
+use Rattle.model.specs.Limits.{max-gates, max-pairs, max-gain, max-activity, max-drop, max-time}
+use Rattle.model.specs.Block.{Block, gate-count}
+use Rattle.model.specs.Curve.{Pair, count-off}
+use Rattle.optimum.specs.BlockTree.{block-tree, increases, pairs-of}
+use Rattle.optimum.proofs.Curve.{saving-after, pairs-few}
+use Rattle.optimum.proofs.Optimum.{pair-range}
+use Rattle.gains.specs.Savings.{most-of-gate}
+use Rattle.sizing.proofs.Blocks.{heads-are}
+use Rattle.sizing.proofs.Spent.{spent-increases, spent-earns}
+use Rattle.curve.specs.Position.{pairs-in}
+use Rattle.shaping.proofs.Facts.{join, no-wire-twice, descending, ranges}
+use Rattle.spending.specs.declared.tree.TreeCurve.{TreeCurve}
+use Rattle.spending.specs.TreeHeld.{TreeArrays, TreeHeld, RunsFound, IncreasesFound}
+use Rattle.spending.proofs.TreeLaws.{is-tree, gates-few, saved-is, steps-are, steps-few}
+
+-- k ticks counted off earn at most k times the greatest gain
+count-off-most : (g : ℕ) (ps : List Pair) → ((p : Pair) → List·Memᴰ p ps → p .gain ≤ g) → (k : ℕ) → count-off ps k ≤ k * g
+unfolding count-off
+count-off-most g [] bound k = omega arith
+count-off-most g (p ∷ ps) bound k =
+    let first : min k (p .width) * p .gain ≤ min k (p .width) * g = mul-le-mul-left (min k (p .width)) (bound p (List·Memᴰ·head refl)) in
+    let rest = count-off-most g ps (λ q m. bound q (List·Memᴰ·tail m)) (k - p .width) in
+    let both : (min k (p .width) + (k - p .width)) * g ≡ min k (p .width) * g + (k - p .width) * g = add-mul (min k (p .width)) (k - p .width) g in
+    let all : min k (p .width) + (k - p .width) ≡ k = omega arith in
+    omega (arith, rw all at both)
+
+module _ {B : Block} {n : ℕ} {A : TreeArrays} (h : TreeHeld B n A) where
+  -- "There are at most 512 pairs"
+  pub pairs-short : length (pairs-of B (block-tree B (h .fits))) ≤ max-pairs
+  pairs-short =
+      omega (arith, pairs-few B (block-tree B (h .fits)) (is-tree h) (descending B (h .limits)), steps-are h, steps-few h)
+
+  -- "no pair's gain is above 63 × 32,768 × 1,000"
+  pub gains-few : (p : Pair) → List·Memᴰ p (pairs-of B (block-tree B (h .fits))) → p .gain ≤ max-gain
+  gains-few p m =
+      let few : max 1 (gate-count B - 1) ≤ max-gates - 1 = omega (arith, h .limits .gates-most) in
+      omega (
+        arith,
+        mul-le-mul-right (max-activity * max-drop) few,
+        pair-range B (h .fits) (join B (h .limits) (h .sound)) (descending B (h .limits)) max-activity max-drop (ranges B (h .limits))
+            (no-wire-twice B (h .limits) (h .sound)) p m,
+      )
+
+  -- ticks spent from the raised start on
+  module _ {after old-ws old-gs ws gs : List ℕ} {ticks counted : ℕ} {r : TreeCurve} (found : RunsFound B (h .fits) n A ticks after old-ws old-gs ws gs r)
+      (off : counted ≡ count-off (pairs-in (r .pairs) ws gs) ticks) where
+    list-after : after ≡ increases B (block-tree B (h .fits)) ticks
+    list-after =
+        found .spent .increases
+        ∙ rw (h .top, found .at-start, steps-are h, heads-are (h .held)) (spent-increases B (block-tree B (h .fits)) (is-tree h) (descending B (h .limits)) ticks)
+
+    counted-is : counted ≡ count-off (pairs-of B (block-tree B (h .fits))) ticks
+    counted-is =
+        off
+        ∙ ap (λ (ps : List Pair). count-off ps ticks) (found .spent .pairs)
+        ∙ rw (h .top, found .at-start, steps-are h, heads-are (h .held)) (spent-earns B (block-tree B (h .fits)) (is-tree h) (descending B (h .limits)) ticks)
+
+    -- the sum fits 64 bits
+    pub sum-fits : ticks ≤ max-time → r .saving + counted < 2 ^ 64
+    sum-fits few =
+        omega (
+          arith,
+          found .saves .small,
+          mul-le-mul-right most-of-gate (gates-few h),
+          counted-is,
+          count-off-most max-gain (pairs-of B (block-tree B (h .fits))) gains-few ticks,
+          mul-le-mul-right max-gain few,
+        )
+
+    pub increases-found : IncreasesFound B (h .fits) ticks after (r .saving + counted)
+    increases-found =
+        record {
+          list = list-after;
+          saved =
+              rw (saved-is h (found .saves), found .at-start, counted-is, list-after)
+              (sym (saving-after B (block-tree B (h .fits)) (is-tree h) (descending B (h .limits)) ticks));
+        }
