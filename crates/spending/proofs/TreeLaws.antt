@@ -47,21 +47,19 @@ use Rattle.spending.specs.TreeHeld.{TreeArrays, TreeHeld, tree-plan, Run
 -- heads for so many places are stored
 pub record Places (H : Stored) (n : ℕ) : Type 0 where
   pub widths-long : n ≤ length (H .widths)
-  pub gains-long : n ≤ length (H .gains)
-  pub ranks-long : n ≤ length (H .ranks)
+  pub keys-long : n ≤ length (H .keys)
 
 room-at : {H : Stored} {n k : ℕ} → Places H n → k < n → Room H k
-room-at p l =
-    record { in-widths = omega (arith, p .widths-long); in-gains = omega (arith, p .gains-long); in-ranks = omega (arith, p .ranks-long) }
+room-at p l = record { in-widths = omega (arith, p .widths-long); in-keys = omega (arith, p .keys-long) }
 
--- heads of no gain, width and rank
+-- heads of no gain and width
 abbrev empty : ℕ → Stored
-empty n = record { widths = no-increase n; gains = no-increase n; ranks = no-increase n }
+empty n = record { widths = no-increase n; keys = no-increase n }
 
 empty-places : (n : ℕ) → Places (empty n) n
 empty-places n =
     let l = length-replicate {A = ℕ} n 0 in
-    record { widths-long = omega arith; gains-long = omega arith; ranks-long = omega arith }
+    record { widths-long = omega arith; keys-long = omega arith }
 
 module _ {B : Block} {n : ℕ} {A : TreeArrays} (h : TreeHeld B n A) where
   abbrev heads : ℕ → ℕ → Head

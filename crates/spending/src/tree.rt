@@ -66,11 +66,9 @@ fn tree_runs(
 {
     let mut lengths = [0u32; MAX_NODES];
     let mut gate_widths = [0u32; MAX_GATES];
-    let mut gate_gains = [0u64; MAX_GATES];
-    let mut gate_ranks = [0u32; MAX_GATES];
+    let mut gate_keys = [0u64; MAX_GATES];
     let mut widths = [0u32; MAX_NODES];
-    let mut gains = [0u64; MAX_NODES];
-    let mut ranks = [0u32; MAX_NODES];
+    let mut keys = [0u64; MAX_NODES];
     start(
         n,
         kinds,
@@ -86,11 +84,9 @@ fn tree_runs(
         &mut lengths,
         increases,
         &mut gate_widths,
-        &mut gate_gains,
-        &mut gate_ranks,
+        &mut gate_keys,
         &mut widths,
-        &mut gains,
-        &mut ranks,
+        &mut keys,
     );
     let saving = list_saving(n as usize, counts, step_widths, drops, inputs, &*increases);
     let steps = step_count(n as usize, counts);
@@ -110,11 +106,9 @@ fn tree_runs(
         inputs,
         increases,
         &mut gate_widths,
-        &mut gate_gains,
-        &mut gate_ranks,
+        &mut gate_keys,
         &mut widths,
-        &mut gains,
-        &mut ranks,
+        &mut keys,
         pair_widths,
         pair_gains,
     );
