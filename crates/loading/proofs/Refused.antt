@@ -2,7 +2,7 @@
 -- Assumes nothing.
 use mathlib.Core.Path.{_≡_, refl, ap}
 use mathlib.Core.List.{List}
-use Prim.Native.Nat.{ℕ, _≤_}
+use Prim.Native.Nat.{ℕ}
 use native.Mathlib.Omega.{arith}
 use lib.ListN.{length}
 use Rattle.model.specs.declared.Refusal.{Refusal}
@@ -40,6 +40,3 @@ passed-on {lent = lent} x ill =
 -- room for every wire, from the lengths of the calls' own arrays
 pub wire-room : {W : WireArrays} → length (W .sources) ≡ max-wires → length (W .targets) ≡ max-wires → length (W .delays) ≡ max-wires → WireRoom W
 wire-room s t d = record { sources = omega arith; targets = omega arith; delays = omega arith }
-
-pub all-of : (xs : List ℕ) (n : ℕ) → length xs ≡ n → n ≤ length xs
-all-of xs n e = omega arith

@@ -1,6 +1,5 @@
 -- `blocktext::block::print_block` meets its contract: what it hands over to be printed are the numbers of the block. The promise comes first, then what the calls ask. Assumes nothing.
 use borrow.Author.Needs.{needs}
-use mathlib.Core.Path.{refl}
 use native.Mathlib.Omega.{arith}
 use Rattle.holding.proofs.HeldLaws.{startable, slackable, the-limits, the-lent}
 use Rattle.text.proofs.Writing.{as-text}
