@@ -1,0 +1,1 @@
+// Several arrays in one array of words: definitions and laws, no code.
