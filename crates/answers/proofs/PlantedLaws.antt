@@ -1,8 +1,8 @@
--- Once the tree of a held file's block is planted and its input activities are found, the block with its tree is in the arrays (`tree-held`).
+-- Once the tree of a held file's block is planted and its input activities are found, the block with its tree is in arrays and words (`tree-held`).
 -- Assumes nothing.
 use mathlib.Core.Path.{_≡_, sym, _∙_, ap, subst}
 use mathlib.Core.List.{List}
-use Prim.Native.Nat.{ℕ, _-_, _≤_, _<_}
+use Prim.Native.Nat.{ℕ, _≤_, _<_}
 use native.Mathlib.Omega.{arith}
 use lib.ListN.{length, take}
 use lib.Seq.{length-take-le, getD-take}
@@ -20,14 +20,14 @@ use Rattle.holding.proofs.HeldLaws.{block, count, the-limits, the-lent, inputs-
 use Rattle.optimum.specs.BlockTree.{block-tree, start-of, IsTree}
 use Rattle.optimum.specs.Tree.{zeros, longest}
 use Rattle.optimum.proofs.BlockTree.{block-is-tree}
-use Rattle.planting.specs.Copy.{Plot}
 use Rattle.planting.specs.Planted.{as-tree, Planted}
-use Rattle.planting.proofs.Cutting.{cut, cut-planted}
+use Rattle.planting.specs.TreeWords.{tree-nodes}
+use Rattle.planting.proofs.HeldNodes.{held-plot, kinds-held, held-planted}
 use Rattle.planting.proofs.Shaping.{own-gate, once, below, few}
-use Rattle.heads.specs.Plan.{part}
+use Rattle.heads.specs.Plan.{node-count, part}
 use Rattle.sizing.specs.Raise.{delays-in}
 use Rattle.sizing.proofs.Blocks.{Held, delays-are}
-use Rattle.shaping.specs.PlantedBlock.{NodesLong, PlantedBlock}
+use Rattle.shaping.specs.PlantedBlock.{PlantedBlock}
 use Rattle.shaping.proofs.Facts.{join}
 use Rattle.spending.specs.TreeHeld.{tree-arrays, TreeHeld}
 use Rattle.answers.proofs.Plantable.{start-same}
@@ -40,22 +40,19 @@ module _
     {order : List ℕ}
     (h : HeldFile file n m arrival deadline activity G W order)
     {c : ℕ}
-    {before A : Plot}
-    (p : PlantedBlock (block h) c before A)
+    {before tree : List ℕ}
+    (p : PlantedBlock (block h) c before tree)
   where
     tree-is : IsTree (block h) (as-tree (p .tree))
     tree-is = subst (IsTree (block h)) (sym (p .is-tree)) (block-is-tree (block h) (p .fits) (join (block h) (the-limits h) (h .well .network)))
 
-    module _ (long : NodesLong A) (inputs : List ℕ) (inputs-long : length inputs ≡ max-gates)
+    module _ (inputs : List ℕ) (inputs-long : length inputs ≡ max-gates)
         (right : InputActivities n m (W .sources) (W .targets) (G .activities) 0 activity (no-increase max-gates) inputs) {r : ℕ} (is : r ≡ start (block h)) (small : r ≤ time-bound) where
-      abbrev C : Plot
-      C = cut c A
+      planted : Planted (p .tree) c (held-plot tree)
+      planted = held-planted tree (p .some) (p .planted) (p .held)
 
-      planted : Planted (p .tree) c C
-      planted = cut-planted (p .some) (p .planted)
-
-      nodes-are : length (C .nodes .kinds) ≡ c
-      nodes-are = length-take-le c (A .nodes .kinds) (omega (arith, p .few, long .kinds-long))
+      nodes-are : node-count (tree-nodes tree) ≡ c
+      nodes-are = kinds-held tree ∙ p .held
 
       gates-few : n ≤ max-gates
       gates-few = the-lent h .gates
@@ -74,7 +71,7 @@ module _
             activity = inputs-are h inputs right;
           }
 
-      pub tree-held : TreeHeld (block h) n (tree-arrays (C .nodes .kinds) (C .nodes .lefts) (C .nodes .gates) (C .nodes .rights) (C .parents) (G .counts) (G .step-widths) (G .drops) inputs (take n (G .delays)))
+      pub tree-held : TreeHeld (block h) n (tree-arrays tree (G .counts) (G .step-widths) (G .drops) inputs (take n (G .delays)))
       tree-held =
           record {
             limits = the-limits h;
@@ -99,14 +96,11 @@ module _
             above = λ k l. planted .above k (omega (arith, nodes-are));
             lasts = λ k l. lasts k (omega (arith, nodes-are));
             some-node = omega (arith, nodes-are, p .some);
-            lefts-long = omega (arith, nodes-are, p .few, long .lefts-long);
-            gates-long = omega (arith, nodes-are, p .few, long .gates-long);
-            rights-long = omega (arith, nodes-are, p .few, long .rights-long);
             counts-long = omega (arith, h .counts-long, gates-few);
             widths-long = omega (arith, h .widths-long, gates-few);
             drops-long = omega (arith, h .drops-long, gates-few);
             inputs-long = omega (arith, gates-few);
           }
         where
-          lasts : (k : ℕ) → k < c → longest (delays-in (take n (G .delays))) (part (C .nodes) k) (zeros (part (C .nodes) k)) ≤ start-of (block h) (block-tree (block h) (p .fits))
+          lasts : (k : ℕ) → k < c → longest (delays-in (take n (G .delays))) (part (tree-nodes tree) k) (zeros (part (tree-nodes tree) k)) ≤ start-of (block h) (block-tree (block h) (p .fits))
           lasts k l = rw (delays-are held) (rw (p .is-tree) at (planted .inside k l .lasts (drawn (block h))))

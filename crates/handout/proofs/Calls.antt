@@ -8,8 +8,8 @@ use native.Mathlib.Omega.{arith}
 use lib.ListN.{length, getD}
 use Rattle.heads.specs.Plan.{Plan, node-count, part, kind, left, gate, right, parent}
 use Rattle.heads.specs.Stored.{Stored, Room, Walkable, Ended, Renewable, Renewed, head-at}
-use Rattle.handout.specs.State.{State, Ready, Fitting, GivenOut}
 use Rattle.heads.specs.GateHeads.{Added}
+use Rattle.handout.specs.State.{State, Ready, Fitting, GivenOut}
 use Rattle.heads.proofs.Locals.{gate-below}
 use Rattle.heads.proofs.Making.{can-make}
 use Rattle.handout.proofs.Handing.{wires, ready-lower, idle, fewer-left, fewer-right, left-ready, left-fits, right-ready, right-fits, both-given}

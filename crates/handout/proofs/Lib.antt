@@ -1,3 +1,4 @@
 pub mod Handing
 pub mod Ways
 pub mod Calls
+pub mod WordCalls

@@ -14,8 +14,8 @@ use Rattle.optimum.specs.Head.{Head, Item, item, turn}
 use Rattle.optimum.specs.Increases.{add, give-list}
 use Rattle.heads.specs.Plan.{Plan, node-count, part, kind, left, gate, right, parent}
 use Rattle.heads.specs.Stored.{Stored, Lent, Down, here, further, Up, top, over, Renewable, Renewed, head-at, put, next-by, next-down}
-use Rattle.handout.specs.State.{State, Fresh, Ready, Fitting, GivenOut}
 use Rattle.heads.specs.GateHeads.{Added}
+use Rattle.handout.specs.State.{State, Fresh, Ready, Fitting, GivenOut}
 use Rattle.heads.proofs.Trees.{by-kind, part-series}
 use Rattle.heads.proofs.Written.{at-put, beside-put, room-put, local-gate}
 use Rattle.heads.proofs.Locals.{gate-below, stored-wire, stored-series}
@@ -190,9 +190,6 @@ module _ (P : Plan) (S : State) (i : ℕ) (ready : Ready P S i) where
         lent-after =
             let t = ready .lent in
             record {
-              lefts-long = t .lefts-long;
-              gates-long = t .gates-long;
-              rights-long = t .rights-long;
               room = t .room;
               gate-room = λ k l e. rw (added .written) (room-put G (gate N j) (gate N k) _ (t .gate-room k l e));
               gate-gain = λ k l e.

@@ -4,16 +4,16 @@ use mathlib.Core.List.{List}
 use Prim.Native.Nat.{ℕ, _≤_, _<_}
 use lib.ListN.{length, getD}
 use Rattle.optimum.specs.Increases.{give-list}
-use Rattle.heads.specs.Plan.{Plan, Sound, node-count, part}
-use Rattle.heads.specs.Stored.{Stored, Room, Local, Keeps, Lent, head-at, stored}
+use Rattle.heads.specs.Plan.{Plan, Sound, StepsHeld, plan, node-count, part}
+use Rattle.heads.specs.Stored.{Stored, Room, Local, Keeps, Lent, head-at, gate-heads, node-heads}
 
 pub record State : Type 0 where
   pub increases : List ℕ
   pub gates : Stored
   pub nodes : Stored
 
-abbrev pub state : List ℕ → List ℕ → List ℕ → List ℕ → List ℕ → State
-state x gate-widths gate-keys widths keys = record { increases = x; gates = stored gate-widths gate-keys; nodes = stored widths keys }
+abbrev pub state : List ℕ → List ℕ → State
+state x words = record { increases = x; gates = gate-heads words; nodes = node-heads words }
 
 -- every gate has an increase, and its stored head is the one that it has with that increase
 pub record Fresh (P : Plan) (S : State) : Type 0 where
@@ -39,3 +39,13 @@ pub record GivenOut (P : Plan) (S S′ : State) (i w p : ℕ) : Type 0 where
   pub lent : Lent (P .nodes) (S′ .gates) (S′ .nodes)
   pub fresh : Fresh P S′
   pub keeps : Keeps (P .nodes) (S .gates) (S .nodes) (S′ .gates) (S′ .nodes) p
+
+-- w ticks can be handed out at node i, over words
+pub record CanGiveOut (block tree x words : List ℕ) (i w : ℕ) : Type 0 where
+  pub ready : Ready (plan block tree) (state x words) i
+  pub steps : StepsHeld block
+  pub fitting : Fitting (state x words) i w
+
+-- they have been
+pub record GaveOut (block tree x words x′ words′ : List ℕ) (i w p : ℕ) : Type 0 where
+  pub given : GivenOut (plan block tree) (state x words) (state x′ words′) i w p

@@ -1,8 +1,13 @@
+pub mod Reading
+pub mod Heads
 pub mod Trees
 pub mod Written
 pub mod Locals
 pub mod Making
 pub mod Climbing
+pub mod Renewing
 pub mod Descent
 pub mod Stepping
 pub mod Unslowing
+pub mod NodeCalls
+pub mod Gathering

@@ -47,10 +47,8 @@ pub can-make : (N : Nodes) (parents : List ℕ) (G H : Stored) (k : ℕ) → Sha
     → ((j : ℕ) → j < k → Local N G H j) → Made N G H k
 can-make N parents G H k shaped lent l local =
     record {
-      kind-in = l;
-      left-in = omega (arith, lent .lefts-long);
-      gate-in = omega (arith, lent .gates-long);
-      right-in = omega (arith, lent .rights-long);
+      node = l;
+      few = shaped .few-nodes;
       room = lent .room k l;
       left-room = λ p. let b = shaped .left-below k l p in lent .room (left N k) (omega arith);
       gate-room = lent .gate-room k l;

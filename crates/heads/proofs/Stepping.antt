@@ -16,8 +16,8 @@ use Rattle.ties.specs.Code.{ranks}
 use Rattle.optimum.specs.Head.{Head, no-head, rank}
 use Rattle.optimum.specs.Gates.{room}
 use Rattle.heads.specs.Plan.{step-head, heads-in}
-use Rattle.heads.specs.Stored.{Stored, put}
-use Rattle.heads.specs.GateHeads.{Added}
+use Rattle.heads.specs.Stored.{GateWritten}
+use Rattle.heads.specs.GateHeads.{GateAdded}
 
 -- the m steps f j, f (j + 1), ..
 unfoldable pub from : (ℕ → Step) → ℕ → ℕ → List Step
@@ -81,21 +81,21 @@ module _ {n : ℕ} {counts step-widths drops inputs : List ℕ} {g k j left : �
       let f : j + 1 ≡ suc j = omega arith in
       rw (e, f)
 
-  pub passed-more : {place width : ℕ} → j < getD counts g 0 → place ≡ g * max-steps + j → width ≡ getD step-widths place 0 → width ≤ left
+  pub passed-more : {width : ℕ} → j < getD counts g 0 → width ≡ getD step-widths (g * max-steps + j) 0 → width ≤ left
       → Passed n counts step-widths drops inputs g k (j + 1) (left - width)
-  passed-more l p w b =
+  passed-more l w b =
       record {
         within = omega arith;
         same = passed .same ∙ ap (λ (ss : List Step). steps-head (rank n g) (getD inputs g 0) ss left) (steps-left l)
-            ∙ rw (w, p) (past-step (rank n g) (getD inputs g 0) (step-at step-widths drops g j) _ left (rw (p) at (rw w at b)));
+            ∙ rw w (past-step (rank n g) (getD inputs g 0) (step-at step-widths drops g j) _ left (rw w at b));
       }
 
-  pub found-step : {place width drop at : ℕ} {a : Head} {r : ℕ} → j < getD counts g 0 → place ≡ g * max-steps + j → width ≡ getD step-widths place 0
-      → left < width → drop ≡ getD drops place 0 → at ≡ g → r ≡ rank n g → a ≡ step-head r (getD inputs at 0) (width - left) drop
+  pub found-step : {width drop input r : ℕ} {a : Head} → j < getD counts g 0 → width ≡ getD step-widths (g * max-steps + j) 0
+      → left < width → drop ≡ getD drops (g * max-steps + j) 0 → input ≡ getD inputs g 0 → r ≡ rank n g → a ≡ step-head r input (width - left) drop
       → a ≡ heads-in n counts step-widths drops inputs g k
-  found-step l p w b d t q e =
-      e ∙ rw (q, t, d, w, p) (sym (passed .same ∙ ap (λ (ss : List Step). steps-head (rank n g) (getD inputs g 0) ss left) (steps-left l)
-      ∙ in-step (rank n g) (getD inputs g 0) (step-at step-widths drops g j) _ left (rw p at (rw w at b))))
+  found-step l w b d t q e =
+      e ∙ rw (q, t, d, w) (sym (passed .same ∙ ap (λ (ss : List Step). steps-head (rank n g) (getD inputs g 0) ss left) (steps-left l)
+      ∙ in-step (rank n g) (getD inputs g 0) (step-at step-widths drops g j) _ left (rw w at b)))
 
   pub found-none : getD counts g 0 ≤ j → no-head ≡ heads-in n counts step-widths drops inputs g k
   unfolding from
@@ -114,6 +114,7 @@ unfolding step-head
 tick-some r a width drop d = rw (ne-eqb (drop * a) 0 d)
 
 -- an increase and the head that goes with it, stored
-pub gate-added : (heads : ℕ → ℕ → Head) (x : List ℕ) (G : Stored) (g w : ℕ) {at : ℕ} {G′ : Stored} {a : Head} → at ≡ g → a ≡ heads g (getD x at 0 + w)
-    → a .rank < ranks → G′ ≡ put G at a → Added heads x (set x at (getD x at 0 + w)) G G′ g w
-gate-added heads x G g w t e l f = record { increases = rw t; written = f ∙ rw (e, t); low = rw (e, t) at l }
+pub gate-added : (heads : ℕ → ℕ → Head) (x : List ℕ) {words : List ℕ} (g w : ℕ) {at : ℕ} {words′ : List ℕ} {a : Head} → at ≡ g → a ≡ heads g (getD x at 0 + w)
+    → a .rank < ranks → GateWritten words words′ at a → GateAdded heads x (set x at (getD x at 0 + w)) words words′ g w
+gate-added heads x g w t e l f =
+    record { added = record { increases = rw t; written = f .gates ∙ rw (e, t); low = rw (e, t) at l }; nodes = f .nodes }

@@ -5,19 +5,15 @@ use mathlib.Core.Logic.{_≢_}
 use mathlib.Core.List.{List}
 use Prim.Native.Nat.{ℕ, zero, suc, _<_}
 use native.Mathlib.Omega.{arith}
-use lib.ListN.{set, length-set}
+use lib.ListN.{length-set}
 use lib.Seq.{getD-set-same, getD-set-other}
 use Rattle.parts.specs.Nodes.{Nodes}
 use Rattle.optimum.specs.Head.{Head, Item, item}
 use Rattle.optimum.proofs.Order.{by-turn, by-sides}
-use Rattle.ties.specs.Code.{ranks, of-key, key-of}
-use Rattle.ties.proofs.Keys.{key-back, head-back, rank-below}
+use Rattle.ties.specs.Code.{ranks, key-of}
+use Rattle.ties.proofs.Keys.{head-back, rank-below}
 use Rattle.heads.specs.Plan.{node-count, kind, left, gate, right, parent, Shaped}
-use Rattle.heads.specs.Stored.{Stored, Room, Local, Keeps, Lent, stored, head-at, put, made, head-below}
-
--- the head of a key, written as its width and the key
-pub key-put : (widths keys : List ℕ) (i w k : ℕ) → stored (set widths i w) (set keys i k) ≡ put (stored widths keys) i (of-key w k)
-key-put widths keys i w k = ap (λ (x : ℕ). stored (set widths i w) (set keys i x)) (sym (key-back w k))
+use Rattle.heads.specs.Stored.{Stored, Room, Local, Keeps, Lent, head-at, put, made, head-below}
 
 pub at-put : (H : Stored) (i : ℕ) (a : Head) → a .rank < ranks → Room H i → head-at (put H i a) i ≡ a
 at-put H i a l r =
@@ -92,9 +88,6 @@ module _ (N : Nodes) (parents : List ℕ) (shaped : Shaped N parents) where
 pub lent-put : (N : Nodes) (G H : Stored) (i : ℕ) (a : Head) → Lent N G H → Lent N G (put H i a)
 lent-put N G H i a t =
     record {
-      lefts-long = t .lefts-long;
-      gates-long = t .gates-long;
-      rights-long = t .rights-long;
       room = λ k l. room-put H i k a (t .room k l);
       gate-room = t .gate-room;
       gate-gain = t .gate-gain;

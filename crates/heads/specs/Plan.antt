@@ -1,4 +1,4 @@
--- The tree of parts in node arrays, with the number of each node's parent, and the heads that the gates have by their steps. Nothing of it changes while ticks are handed out.
+-- The tree of parts in words, with the number of each node's parent, and the heads that the gates have by their steps. Nothing of it changes while ticks are handed out.
 use mathlib.Core.Path.{_≡_}
 use mathlib.Core.Bool.{cond}
 use mathlib.Core.List.{List}
@@ -13,12 +13,11 @@ use Rattle.model.specs.Arrays.{step-at}
 use Rattle.parts.specs.Nodes.{Nodes, tree-of}
 use Rattle.planting.specs.Copy.{max-nodes}
 use Rattle.planting.specs.Planted.{as-tree}
+use Rattle.planting.specs.TreeWords.{nodes-held, tree-nodes, tree-parents}
 use Rattle.optimum.specs.Tree.{Tree, Once, Below, size}
 use Rattle.optimum.specs.Head.{Head, Heads, no-head, rank}
 use Rattle.optimum.specs.Gates.{room}
-
-abbrev pub nodes-in : List ℕ → List ℕ → List ℕ → List ℕ → Nodes
-nodes-in kinds lefts gates rights = record { kinds = kinds; lefts = lefts; gates = gates; rights = rights }
+use Rattle.blockwords.specs.BlockWords.{gates-held, counts-of, widths-of, drops-of, inputs-of}
 
 -- the part whose top is node k
 abbrev pub part : Nodes → ℕ → Tree
@@ -41,6 +40,11 @@ right N k = getD (N .rights) k 0
 
 abbrev pub parent : List ℕ → ℕ → ℕ
 parent parents k = getD parents k 0
+
+-- node k is one of the tree in these words, which has no more nodes than a block's tree can have
+pub record NodeIn (tree : List ℕ) (k : ℕ) : Type 0 where
+  pub node : k < nodes-held tree
+  pub few : nodes-held tree ≤ max-nodes
 
 -- gates of a block here, at most: one more than a file's
 abbrev pub most-gates : ℕ
@@ -81,14 +85,17 @@ heads-in n counts step-widths drops inputs g k =
 
 -- The arrays hold at most so many steps of each of n gates, with drops and input activities that are not too great.
 pub record StepsLent (n : ℕ) (counts step-widths drops inputs : List ℕ) : Type 0 where
-  pub gates : n ≤ most-gates
-  pub counts-long : n ≤ length counts
-  pub widths-long : n * max-steps ≤ length step-widths
-  pub drops-long : n * max-steps ≤ length drops
-  pub inputs-long : n ≤ length inputs
+  pub gates : n ≤ max-gates
   pub few : (g : ℕ) → g < n → getD counts g 0 ≤ max-steps
   pub drop-small : (g j : ℕ) → g < n → j < getD counts g 0 → getD drops (g * max-steps + j) 0 ≤ max-drop
   pub input-small : (g : ℕ) → g < n → getD inputs g 0 ≤ most-input
+
+-- the heads of a block's gates
+abbrev pub heads-of : List ℕ → ℕ → ℕ → Head
+heads-of block = heads-in (gates-held block) (counts-of block) (widths-of block) (drops-of block) (inputs-of block)
+
+abbrev pub StepsHeld : List ℕ → Type 0
+StepsHeld block = StepsLent (gates-held block) (counts-of block) (widths-of block) (drops-of block) (inputs-of block)
 
 -- What stands while ticks are handed out: n gates, the tree, and the gates' heads.
 pub record Plan : Type 0 where
@@ -97,13 +104,13 @@ pub record Plan : Type 0 where
   pub parents : List ℕ
   pub heads : ℕ → ℕ → Head
 
-abbrev pub plan : ℕ → List ℕ → List ℕ → List ℕ → List ℕ → List ℕ → (ℕ → ℕ → Head) → Plan
-plan n kinds lefts gates rights parents heads =
+abbrev pub plan : List ℕ → List ℕ → Plan
+plan block tree =
     record {
-      gate-count = n;
-      nodes = nodes-in kinds lefts gates rights;
-      parents = parents;
-      heads = heads;
+      gate-count = gates-held block;
+      nodes = tree-nodes tree;
+      parents = tree-parents tree;
+      heads = heads-of block;
     }
 
 -- The tree is one of gates below n; the heads are those of gates, no gain is too great, and no width leads too far.

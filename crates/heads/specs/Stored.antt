@@ -1,12 +1,18 @@
--- Heads stored in arrays, an entry a gate or a node; and what makes them right: a node's stored head is what the stored heads just below it make.
+-- Heads stored in words, an entry a gate or a node; and what makes them right: a node's stored head is what the stored heads just below it make.
 use mathlib.Core.Path.{_≡_}
 use mathlib.Core.Logic.{_≢_}
 use mathlib.Core.List.{List}
-use Prim.Native.Nat.{ℕ, zero, suc, _+_, _^_, _≤_, _<_}
+use mathlib.Core.Bool.{cond}
+use Prim.Native.Nat.{ℕ, zero, suc, _+_, _*_, _^_, _≤_, _<_}
+use lib.Dec.{ltb}
 use lib.ListN.{length, getD, set}
+use Rattle.model.specs.Limits.{max-gates}
+use Rattle.planting.specs.Copy.{max-nodes}
 use Rattle.parts.specs.Nodes.{Nodes}
-use Rattle.ties.specs.Code.{of-key, key-of}
 use Rattle.optimum.specs.Head.{Head, no-head, best-of, beside, Item, turn, item}
+use Rattle.words.specs.View.{view}
+use Rattle.planting.specs.TreeWords.{tree-nodes, tree-parents}
+use Rattle.ties.specs.Code.{of-key, key-of}
 use Rattle.heads.specs.Plan.{node-count, kind, left, gate, right, parent, most-gain, Shaped}
 
 pub record Stored : Type 0 where
@@ -16,6 +22,32 @@ pub record Stored : Type 0 where
 abbrev pub stored : List ℕ → List ℕ → Stored
 stored widths keys = record { widths = widths; keys = keys }
 
+-- the words of heads: two a head, its key and its width; an entry for each gate, and behind them one for each node
+abbrev pub head-entries : ℕ
+head-entries = max-gates + max-nodes
+
+-- the head at entry e
+abbrev pub entry-at : List ℕ → ℕ → Head
+entry-at words e = of-key (getD words (e * 2 + 1) 0) (getD words (e * 2 + 0) 0)
+
+-- the head a at entry e
+abbrev pub write : List ℕ → ℕ → Head → List ℕ
+write words e a = set (set words (e * 2 + 0) (key-of a)) (e * 2 + 1) (a .width)
+
+-- `count` entries from entry `first` on
+abbrev pub heads-from : ℕ → ℕ → List ℕ → Stored
+heads-from first count words = stored (view (first * 2 + 1) 2 count words) (view (first * 2 + 0) 2 count words)
+
+-- so many, where the words are all there; otherwise none
+unfoldable pub if-long : List ℕ → ℕ → ℕ
+if-long words count = cond (ltb (length words) (head-entries * 2)) 0 count
+
+unfoldable pub gate-heads : List ℕ → Stored
+gate-heads words = heads-from 0 (if-long words max-gates) words
+
+unfoldable pub node-heads : List ℕ → Stored
+node-heads words = heads-from max-gates (if-long words max-nodes) words
+
 -- the head at place k
 abbrev pub head-at : Stored → ℕ → Head
 head-at H k = of-key (getD (H .widths) k 0) (getD (H .keys) k 0)
@@ -24,7 +56,7 @@ head-at H k = of-key (getD (H .widths) k 0) (getD (H .keys) k 0)
 abbrev pub put : Stored → ℕ → Head → Stored
 put H k a = stored (set (H .widths) k (a .width)) (set (H .keys) k (key-of a))
 
--- place k is there in both arrays
+-- place k is there in both
 pub record Room (H : Stored) (k : ℕ) : Type 0 where
   pub in-widths : k < length (H .widths)
   pub in-keys : k < length (H .keys)
@@ -41,10 +73,8 @@ head-below N G H k = made (kind N k) (head-at H (left N k)) (head-at G (gate N k
 
 -- The heads just below node k are at hand, and the head that they make fits.
 pub record Made (N : Nodes) (G H : Stored) (k : ℕ) : Type 0 where
-  pub kind-in : k < length (N .kinds)
-  pub left-in : k < length (N .lefts)
-  pub gate-in : k < length (N .gates)
-  pub right-in : k < length (N .rights)
+  pub node : k < node-count N
+  pub few : node-count N ≤ max-nodes
   pub room : Room H k
   pub left-room : 0 < kind N k → Room H (left N k)
   pub gate-room : kind N k ≡ 1 → Room G (gate N k)
@@ -59,14 +89,28 @@ pub record Local (N : Nodes) (G H : Stored) (k : ℕ) : Type 0 where
 pub record Keeps (N : Nodes) (G H G′ H′ : Stored) (p : ℕ) : Type 0 where
   pub still : (k : ℕ) → k < node-count N → k ≢ p → Local N G H k → Local N G′ H′ k
 
--- The node arrays and both arrays of heads have a place for every node and for the gate of every series node, whose gain is not too great.
+-- There is a head for every node and for the gate of every series node, whose gain is not too great.
 pub record Lent (N : Nodes) (G H : Stored) : Type 0 where
-  pub lefts-long : node-count N ≤ length (N .lefts)
-  pub gates-long : node-count N ≤ length (N .gates)
-  pub rights-long : node-count N ≤ length (N .rights)
   pub room : (k : ℕ) → k < node-count N → Room H k
   pub gate-room : (k : ℕ) → k < node-count N → kind N k ≡ 1 → Room G (gate N k)
   pub gate-gain : (k : ℕ) → k < node-count N → kind N k ≡ 1 → head-at G (gate N k) .gain ≤ most-gain
+
+-- gate g, or node k, has a head in the words
+pub record GateRoom (words : List ℕ) (g : ℕ) : Type 0 where
+  pub room : Room (gate-heads words) g
+
+pub record NodeRoom (words : List ℕ) (k : ℕ) : Type 0 where
+  pub room : Room (node-heads words) k
+
+-- A node's head has been written, and no other.
+pub record NodeWritten (words words′ : List ℕ) (k : ℕ) (a : Head) : Type 0 where
+  pub gates : gate-heads words′ ≡ gate-heads words
+  pub nodes : node-heads words′ ≡ put (node-heads words) k a
+
+-- A gate's head has been written, and no other.
+pub record GateWritten (words words′ : List ℕ) (g : ℕ) (a : Head) : Type 0 where
+  pub gates : gate-heads words′ ≡ put (gate-heads words) g a
+  pub nodes : node-heads words′ ≡ node-heads words
 
 -- the node that gets the ticks of node k: node k itself where its own gate gets them, or where it is no series node
 abbrev pub next-by : ℕ → Item → ℕ → ℕ → ℕ → ℕ
@@ -110,3 +154,21 @@ pub record Renewable (N : Nodes) (parents : List ℕ) (G H : Stored) (j i : ℕ)
 pub record Renewed (N : Nodes) (parents : List ℕ) (G H H′ : Stored) (j i : ℕ) : Type 0 where
   pub lent : Lent N G H′
   pub still : (k : ℕ) → k < node-count N → k ≢ parent parents i → (k ≢ j → Local N G H k) → Local N G H′ k
+
+-- The same over the words of a tree and of heads.
+pub record CanMake (tree words : List ℕ) (k : ℕ) : Type 0 where
+  pub made : Made (tree-nodes tree) (gate-heads words) (node-heads words) k
+
+pub record CanWalk (tree words : List ℕ) (i : ℕ) : Type 0 where
+  pub walkable : Walkable (tree-nodes tree) (gate-heads words) (node-heads words) i
+
+pub record WalkEnds (tree words : List ℕ) (i j : ℕ) : Type 0 where
+  pub ended : Ended (tree-nodes tree) (gate-heads words) (node-heads words) i j
+
+pub record CanRenew (tree words : List ℕ) (j i : ℕ) : Type 0 where
+  pub renewable : Renewable (tree-nodes tree) (tree-parents tree) (gate-heads words) (node-heads words) j i
+
+-- no head of a gate has been written
+pub record NodesRenewed (tree words words′ : List ℕ) (j i : ℕ) : Type 0 where
+  pub gates : gate-heads words′ ≡ gate-heads words
+  pub renewed : Renewed (tree-nodes tree) (tree-parents tree) (gate-heads words) (node-heads words) (node-heads words′) j i

@@ -1,20 +1,26 @@
 // The head of a gate by its steps, and ticks for a gate.
+use crate::head_words::HeadWords;
 use crate::store::index;
-use crate::store::write_head;
-use model::limits::MAX_STEPS;
+use crate::store::write_gate;
+use blockwords::BlockWords;
+use blockwords::gate_count;
+use blockwords::input_of;
+use blockwords::step_count;
+use blockwords::step_drop;
+use blockwords::step_width;
 use ties::Head;
 use ties::keyed;
 use ties::none;
 use ties::rank;
 ghost use mathlib.Core.Path.{_≡_};
-ghost use Prim.Native.Nat.{ℕ, _+_, _*_, _^_, _≤_, _<_};
+ghost use Prim.Native.Nat.{ℕ, _+_, _^_, _≤_, _<_};
 ghost use lib.ListN.{getD, length};
-ghost use Rattle.model.specs.Limits.{max-steps, max-drop};
+ghost use Rattle.model.specs.Limits.{max-drop};
 ghost use Rattle.ties.specs.Code.{ranks, head-of};
-ghost use Rattle.heads.specs.Plan.{most-gates, most-input, heads-in, step-head, StepsLent};
-ghost use Rattle.heads.specs.Stored.{Room, stored};
-ghost use Rattle.heads.specs.GateHeads.{Added};
-ghost use Rattle.heads.specs.GateHeads.{Unslowed};
+ghost use Rattle.blockwords.specs.BlockWords.{gates-held};
+ghost use Rattle.heads.specs.Plan.{most-input, heads-of, step-head, StepsHeld};
+ghost use Rattle.heads.specs.Stored.{GateRoom};
+ghost use Rattle.heads.specs.GateHeads.{GateAdded, GatesUnslowed};
 
 // The head of a tick with this drop and input activity, `width` ticks before the end of its step.
 fn tick_head(width: u32, drop: u32, input: u32, rank: u32) -> Head
@@ -25,38 +31,26 @@ fn tick_head(width: u32, drop: u32, input: u32, rank: u32) -> Head
     if gain == 0 {
         return none();
     }
-    keyed(width, gain, rank as u64)
-}
-
-// The place of step j of gate g.
-fn place_of(g: u32, j: u32) -> usize
-    requires { ⌜ (g < most-gates) × (j < max-steps) ⌝ }
-    ensures { λ r. ⌜ r ≡ g * max-steps + j ⌝ }
-{
-    (g as usize) * MAX_STEPS + (j as usize)
+    keyed(width as u64, gain, rank as u64)
 }
 
 // The head of gate g with the increase k.
-pub fn gate_head(
-    n: u32,
-    g: u32,
-    k: u32,
-    counts: &[u32],
-    step_widths: &[u32],
-    drops: &[u32],
-    inputs: &[u32],
-) -> Head
-    requires { ⌜ (g < n) × StepsLent n (now counts) (now «step_widths») (now drops) (now inputs) ⌝ }
-    ensures { λ r. ⌜ head-of r ≡ heads-in n (now (counts .entry)) (now («step_widths» .entry)) (now (drops .entry)) (now (inputs .entry)) g k ⌝ }
+pub fn gate_head(g: u32, k: u32, block: &BlockWords) -> Head
+    requires { ⌜ (g < gates-held (now block)) × StepsHeld (now block) ⌝ }
+    ensures { λ r. ⌜ head-of r ≡ heads-of (now (block .entry)) g k ⌝ }
 {
-    let count = counts[index(g)];
+    let count = step_count(block, g);
     let mut left = k;
     let mut j: u32 = 0;
     while j < count {
-        let place = place_of(g, j);
-        let width = step_widths[place];
+        let width = step_width(block, g, j);
         if left < width {
-            return tick_head(width - left, drops[place], inputs[index(g)], rank(n, g));
+            return tick_head(
+                width - left,
+                step_drop(block, g, j),
+                input_of(block, g),
+                rank(gate_count(block), g),
+            );
         }
         left -= width;
         j += 1;
@@ -66,49 +60,36 @@ pub fn gate_head(
 
 // Gives w ticks to gate g, and renews its head.
 pub fn gate_give_out(
-    n: u32,
     g: u32,
     w: u32,
-    counts: &[u32],
-    step_widths: &[u32],
-    drops: &[u32],
-    inputs: &[u32],
+    block: &BlockWords,
     increases: &mut [u32],
-    gate_widths: &mut [u32],
-    gate_keys: &mut [u64],
+    heads: &mut HeadWords,
 )
-    requires { ⌜ (g < n) × StepsLent n (now counts) (now «step_widths») (now drops) (now inputs) × (g < length (now increases)) × (getD (now increases) g 0 + w < 2 ^ 32) × Room (stored (now «gate_widths») (now «gate_keys»)) g ⌝ }
-    ensures { λ r. ⌜ Added (heads-in n (now (counts .entry)) (now («step_widths» .entry)) (now (drops .entry)) (now (inputs .entry))) (now (increases .entry)) (now (increases .exit)) (stored (now («gate_widths» .entry)) (now («gate_keys» .entry))) (stored (now («gate_widths» .exit)) (now («gate_keys» .exit))) g w ⌝ }
+    requires { ⌜ (g < gates-held (now block)) × StepsHeld (now block) × (g < length (now increases)) × (getD (now increases) g 0 + w < 2 ^ 32) × GateRoom (now heads) g ⌝ }
+    ensures { λ _. ⌜ GateAdded (heads-of (now (block .entry))) (now (increases .entry)) (now (increases .exit)) (now (heads .entry)) (now (heads .exit)) g w ⌝ }
 {
     let at = index(g);
     let more = increases[at] + w;
     increases[at] = more;
-    let head = gate_head(n, g, more, counts, step_widths, drops, inputs);
-    write_head(gate_widths, gate_keys, at, head);
+    let head = gate_head(g, more, block);
+    write_gate(heads, at, head);
 }
 
-// Puts the increases of n gates to 0, and stores the heads that the gates then have.
-pub fn unslowed_heads(
-    n: u32,
-    counts: &[u32],
-    step_widths: &[u32],
-    drops: &[u32],
-    inputs: &[u32],
-    increases: &mut [u32],
-    gate_widths: &mut [u32],
-    gate_keys: &mut [u64],
-)
-    requires { ⌜ StepsLent n (now counts) (now «step_widths») (now drops) (now inputs) ⌝ }
-    requires { ⌜ n ≤ length (now increases) ⌝ }
-    requires { ⌜ ((g : ℕ) → g < n → Room (stored (now «gate_widths») (now «gate_keys»)) g) ⌝ }
-    ensures { λ r. ⌜ Unslowed (heads-in n (now (counts .entry)) (now («step_widths» .entry)) (now (drops .entry)) (now (inputs .entry))) n (now (increases .exit)) (stored (now («gate_widths» .exit)) (now («gate_keys» .exit))) ⌝ }
+// Puts the increases of the gates to 0, and stores the heads that the gates then have.
+pub fn unslowed_heads(block: &BlockWords, increases: &mut [u32], heads: &mut HeadWords)
+    requires { ⌜ StepsHeld (now block) ⌝ }
+    requires { ⌜ gates-held (now block) ≤ length (now increases) ⌝ }
+    requires { ⌜ ((g : ℕ) → g < gates-held (now block) → GateRoom (now heads) g) ⌝ }
+    ensures { λ _. ⌜ GatesUnslowed (heads-of (now (block .entry))) (gates-held (now (block .entry))) (now (increases .exit)) (now (heads .entry)) (now (heads .exit)) ⌝ }
 {
+    let n = gate_count(block);
     let mut g: u32 = 0;
     while g < n {
         let at = index(g);
         increases[at] = 0;
-        let head = gate_head(n, g, 0, counts, step_widths, drops, inputs);
-        write_head(gate_widths, gate_keys, at, head);
+        let head = gate_head(g, 0, block);
+        write_gate(heads, at, head);
         g += 1;
     }
 }

@@ -335,12 +335,12 @@ module _
         }
 
 -- the arrays of B are as long as those of A
-pub record AsLong (A B : Plot) : Type 0 where
-  pub kinds-kept : length (B .nodes .kinds) ≡ length (A .nodes .kinds)
-  pub lefts-kept : length (B .nodes .lefts) ≡ length (A .nodes .lefts)
-  pub gates-kept : length (B .nodes .gates) ≡ length (A .nodes .gates)
-  pub rights-kept : length (B .nodes .rights) ≡ length (A .nodes .rights)
-  pub parents-kept : length (B .parents) ≡ length (A .parents)
+record AsLong (A B : Plot) : Type 0 where
+  kinds-kept : length (B .nodes .kinds) ≡ length (A .nodes .kinds)
+  lefts-kept : length (B .nodes .lefts) ≡ length (A .nodes .lefts)
+  gates-kept : length (B .nodes .gates) ≡ length (A .nodes .gates)
+  rights-kept : length (B .nodes .rights) ≡ length (A .nodes .rights)
+  parents-kept : length (B .parents) ≡ length (A .parents)
 
 leaf-as-long : (d c : ℕ) (A : Plot) → AsLong A (with-leaf c d A)
 leaf-as-long d c A =
@@ -362,7 +362,7 @@ parent-as-long x l m r A =
       parents-kept = length-set (set (A .parents) (l - 1) r) (r - 1) r ∙ length-set (A .parents) (l - 1) r;
     }
 
-pub as-long-then : {A B C : Plot} → AsLong A B → AsLong B C → AsLong A C
+as-long-then : {A B C : Plot} → AsLong A B → AsLong B C → AsLong A C
 as-long-then a b =
     record {
       kinds-kept = b .kinds-kept ∙ a .kinds-kept;
@@ -373,7 +373,7 @@ as-long-then a b =
     }
 
 -- copying changes no length
-pub copied-as-long : (t : NodeTree) (c : ℕ) (A : Plot) → AsLong A (copied t c A)
+copied-as-long : (t : NodeTree) (c : ℕ) (A : Plot) → AsLong A (copied t c A)
 unfolding copied
 copied-as-long (leaf d) c A = leaf-as-long d c A
 copied-as-long (chain P m Q) c A =

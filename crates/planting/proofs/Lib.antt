@@ -4,4 +4,6 @@ pub mod Steps
 pub mod Tops
 pub mod Wires
 pub mod Shaping
-pub mod Cutting
+pub mod Agreeing
+pub mod Writing
+pub mod HeldNodes

@@ -1,17 +1,15 @@
--- A tree copied to the first nodes, its top's parent written, is planted (`planted`); so are the tree of a whole block and a gate alone, written piece by piece. The arrays are those of `planted-in` and keep their lengths.
+-- A tree copied to the first nodes, its top's parent written, is planted (`planted`); so are the tree of a whole block and a gate alone, written piece by piece. The arrays are those of `planted-in`.
 -- Assumes nothing.
 use mathlib.Core.Path.{_≡_, refl, _∙_, ap₂}
 use mathlib.Core.Logic.{_⊎_, inl, inr}
-use mathlib.Core.List.{List}
 use Prim.Native.Nat.{ℕ, _+_, _-_, _≤_, _<_, _^_}
 use native.Mathlib.Omega.{arith}
-use lib.ListN.{length, set, length-set}
 use lib.Seq.{getD-set-same, getD-set-other}
 use Rattle.lists.proofs.Compare.{compared}
 use Rattle.parts.specs.Nodes.{Tree, leaf, chain}
 use Rattle.planting.specs.Copy.{Plot, nodes-of, with-leaf, with-parent, copied, rooted, planted-in, Room}
 use Rattle.planting.specs.Planted.{left, right, parent, Planted, whole, lone}
-use Rattle.planting.proofs.Adding.{Added, nodes-some, AsLong, as-long-then, copied-as-long, less-room, leaf-room, parent-room, copied-room, copied-added}
+use Rattle.planting.proofs.Adding.{Added, nodes-some, less-room, leaf-room, parent-room, copied-room, copied-added}
 
 pub planted : (t : Tree) (A : Plot) → Room A (nodes-of t) → Planted t (nodes-of t) (rooted (nodes-of t) (copied t 0 A))
 planted t A room = go (copied t 0 A) (copied-room t 0 _ A room) (copied-added t 0 A (less-room (omega arith) room))
@@ -43,16 +41,9 @@ planted t A room = go (copied t 0 A) (copied-room t 0 _ A room) (copied-added t 
             rw (e, getD-set-same (B .parents) (nodes-of t - 1) (nodes-of t) 0 (omega (arith, there .parent-room, nodes-some t))) (omega (arith, nodes-some t))
         above-all k h (inr (inr l)) = absurd (omega arith)
 
-rooted-as-long : (c : ℕ) (A : Plot) → AsLong A (rooted c A)
-rooted-as-long c A =
-    record { kinds-kept = refl; lefts-kept = refl; gates-kept = refl; rights-kept = refl; parents-kept = length-set (A .parents) (c - 1) c }
-
-pub planted-as-long : (t : Tree) {A B : Plot} → B ≡ planted-in t A → AsLong A B
-planted-as-long t {A} e = rw e (as-long-then (copied-as-long t 0 A) (rooted-as-long (nodes-of t) (copied t 0 A)))
-
 -- a tree copied, with its top's parent written
-planted-is : (t : Tree) {r : ℕ} {A B : Plot} {ps : List ℕ} → Room A (nodes-of t) → r ≡ nodes-of t → B ≡ copied t 0 A → ps ≡ set (B .parents) (r - 1) r
-    → Planted t r (record { nodes = B .nodes; parents = ps }) × (record { nodes = B .nodes; parents = ps } ≡ planted-in t A)
+planted-is : (t : Tree) {r : ℕ} {A B C : Plot} → Room A (nodes-of t) → r ≡ nodes-of t → B ≡ copied t 0 A → C ≡ rooted r B
+    → Planted t r C × (C ≡ planted-in t A)
 planted-is t {A = A} room n e p =
     rw (p, e, n) (planted t A room, refl)
 
@@ -96,10 +87,10 @@ module _ (t : Tree) (a b : ℕ) {A : Plot} (room : Room A (nodes-of (whole a t b
           inner-is = inner ∙ rw (behind, tree, before, count) refl
 
           module _ {F : Plot} (outer : F ≡ with-parent 1 1 a (l + 2) E) where
-            pub root-asked : (1 ≤ l + 3) × (l + 3 ≤ length (F .parents)) × (l + 3 < 2 ^ 32)
+            pub root-asked : Room F (l + 3) × (1 ≤ l + 3)
             root-asked =
                 let there : Room F (nodes-of (whole a t b)) = rw outer (parent-room 1 1 a (l + 2) _ E room-inner) in
-                (omega arith, omega (arith, count, there .parent-room), fits)
+                (less-room (omega (arith, count)) there, omega arith)
 
             outer-is : F ≡ copied (whole a t b) 0 A
             unfolding copied
@@ -107,14 +98,14 @@ module _ (t : Tree) (a b : ℕ) {A : Plot} (room : Room A (nodes-of (whole a t b
                 let e : l + 2 ≡ 1 + (nodes-of t + 1 + 1) = omega (arith, count) in
                 outer ∙ ap₂ (λ r X. with-parent 1 1 a r X) e inner-is
 
-            pub whole-done : {ps : List ℕ} → ps ≡ set (F .parents) (l + 3 - 1) (l + 3)
-                → (l + 3 ≡ nodes-of (whole a t b)) × (Planted (whole a t b) (l + 3) (record { nodes = F .nodes; parents = ps }) × (record { nodes = F .nodes; parents = ps } ≡ planted-in (whole a t b) A))
+            pub whole-done : {G : Plot} → G ≡ rooted (l + 3) F
+                → (l + 3 ≡ nodes-of (whole a t b)) × (Planted (whole a t b) (l + 3) G × (G ≡ planted-in (whole a t b) A))
             whole-done p =
                 let n : l + 3 ≡ nodes-of (whole a t b) = omega (arith, count) in
                 (n, planted-is (whole a t b) room n outer-is p)
 
-pub lone-done : (g : ℕ) {A B C D : Plot} {ps : List ℕ} → Room A 3 → B ≡ with-leaf 0 0 A → C ≡ with-leaf 1 0 B → D ≡ with-parent 1 1 g 2 C
-    → ps ≡ set (D .parents) 2 3 → Planted (lone g) 3 (record { nodes = D .nodes; parents = ps }) × (record { nodes = D .nodes; parents = ps } ≡ planted-in (lone g) A)
+pub lone-done : (g : ℕ) {A B C D E : Plot} → Room A 3 → B ≡ with-leaf 0 0 A → C ≡ with-leaf 1 0 B → D ≡ with-parent 1 1 g 2 C
+    → E ≡ rooted 3 D → Planted (lone g) 3 E × (E ≡ planted-in (lone g) A)
 unfolding copied
 lone-done g room b c d p = planted-is (lone g) room refl (d ∙ rw (c, b) refl) p
 
@@ -124,5 +115,5 @@ lone-second {A} room b = rw b (leaf-room 0 0 3 A room)
 pub lone-third : {B C : Plot} → Room B 3 → C ≡ with-leaf 1 0 B → Room C 3
 lone-third {B} room c = rw c (leaf-room 0 1 3 B room)
 
-pub lone-last : (g : ℕ) {C D : Plot} → Room C 3 → D ≡ with-parent 1 1 g 2 C → 3 ≤ length (D .parents)
-lone-last g {C} {D} room d = let there : Room D 3 = rw d (parent-room 1 1 g 2 3 C room) in there .parent-room
+pub lone-last : (g : ℕ) {C D : Plot} → Room C 3 → D ≡ with-parent 1 1 g 2 C → Room D 3
+lone-last g {C} room d = rw d (parent-room 1 1 g 2 3 C room)

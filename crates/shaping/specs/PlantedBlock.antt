@@ -1,4 +1,4 @@
--- What planting the tree of a block asks, and what it leaves in the node arrays.
+-- What planting the tree of a block asks, and what it leaves in the words of a tree.
 use mathlib.Core.Path.{_≡_}
 use mathlib.Core.List.{List}
 use Prim.Native.Nat.{ℕ, _≤_, _<_}
@@ -10,8 +10,9 @@ use Rattle.model.proofs.Limited.{BlockLimits}
 use Rattle.parts.specs.Nodes.{Tree}
 use Rattle.reduction.specs.Wired.{Wired}
 use Rattle.optimum.specs.BlockTree.{block-tree}
-use Rattle.planting.specs.Copy.{Plot, planted-in, max-nodes}
+use Rattle.planting.specs.Copy.{planted-in, max-nodes}
 use Rattle.planting.specs.Planted.{as-tree, Planted}
+use Rattle.planting.specs.TreeWords.{plot-of, nodes-held}
 
 -- B is within the limits of a file, its network is sound, and its m wires stand in the arrays.
 pub record Given (B : Block) (n m : ℕ) (sources targets wire-delays : List ℕ) : Type 0 where
@@ -25,26 +26,19 @@ pub record WiresLong (m : ℕ) (sources targets wire-delays : List ℕ) : Type 0
   pub targets-long : m ≤ length targets
   pub delays-long : m ≤ length wire-delays
 
--- the node arrays have room for the tree of any block
-pub record NodesLong (A : Plot) : Type 0 where
-  pub kinds-long : max-nodes ≤ length (A .nodes .kinds)
-  pub lefts-long : max-nodes ≤ length (A .nodes .lefts)
-  pub gates-long : max-nodes ≤ length (A .nodes .gates)
-  pub rights-long : max-nodes ≤ length (A .nodes .rights)
-  pub parents-long : max-nodes ≤ length (A .parents)
-
--- The block is series-parallel, and its tree stands in the first c nodes of the arrays A, whose other nodes are as in `before`.
-pub record PlantedBlock (B : Block) (c : ℕ) (before A : Plot) : Type 0 where
+-- The block is series-parallel, and its tree stands in the first c nodes of the words, whose other nodes are as in `before`.
+pub record PlantedBlock (B : Block) (c : ℕ) (before words : List ℕ) : Type 0 where
   pub fits : SeriesParallel B
   pub tree : Tree
   pub is-tree : as-tree tree ≡ block-tree B fits
-  pub planted : Planted tree c A
-  pub written : A ≡ planted-in tree before
+  pub planted : Planted tree c (plot-of words)
+  pub written : plot-of words ≡ planted-in tree (plot-of before)
+  pub held : nodes-held words ≡ c
   pub some : 0 < c
   pub few : c ≤ max-nodes
 
--- No node exactly where the block is not series-parallel, and then the arrays are as before; else its tree.
-pub record PlantedOrNot (B : Block) (c : ℕ) (before A : Plot) : Type 0 where
+-- No node exactly where the block is not series-parallel, and then the words are as before; else its tree.
+pub record PlantedOrNot (B : Block) (c : ℕ) (before words : List ℕ) : Type 0 where
   pub none : c ≡ 0 → ¬ (SeriesParallel B)
-  pub kept : c ≡ 0 → A ≡ before
-  pub tree : 0 < c → PlantedBlock B c before A
+  pub kept : c ≡ 0 → words ≡ before
+  pub tree : 0 < c → PlantedBlock B c before words

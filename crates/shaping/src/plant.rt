@@ -1,17 +1,19 @@
-// The tree of a block's parts, planted in node arrays.
+// The tree of a block's parts, planted in the words of a tree.
 use model::limits::MAX_GATES;
 use model::limits::MAX_WIRES;
 use planting::MAX_REDUCED;
-use planting::NodeNumbers;
 use planting::plant;
 use planting::plant_lone;
+use planting::tree_words::TreeWords;
 use reduction::reduce_network;
 use slots::Answer;
+ghost use Prim.Native.Nat.{_≤_};
+ghost use lib.ListN.{length};
 ghost use Rattle.model.specs.Block.{Block};
-ghost use Rattle.planting.specs.Copy.{plot};
-ghost use Rattle.shaping.specs.PlantedBlock.{Given, WiresLong, NodesLong, PlantedOrNot};
+ghost use Rattle.planting.specs.TreeWords.{tree-words};
+ghost use Rattle.shaping.specs.PlantedBlock.{Given, WiresLong, PlantedOrNot};
 
-// The tree of a block of n gates and m wires, which stand in the arrays, planted in the node arrays. Answers the number of nodes, whose last is the top; 0 where the block is not series-parallel. Nodes beyond are as before.
+// The tree of a block of n gates and m wires, which stand in the arrays, planted in the words of a tree. Answers the number of nodes, whose last is the top; 0 where the block is not series-parallel. Nodes beyond are as before.
 // Public for the crates above only: they have shown that the wires are those of a sound network.
 pub fn plant_block(
     n: usize,
@@ -19,17 +21,12 @@ pub fn plant_block(
     sources: &[u32],
     targets: &[u32],
     wire_delays: &[u32],
-    kinds: &mut NodeNumbers,
-    lefts: &mut NodeNumbers,
-    gates: &mut NodeNumbers,
-    rights: &mut NodeNumbers,
-    parents: &mut NodeNumbers,
+    tree: &mut TreeWords,
 ) -> usize
     requires { ⌜ ((B : Block) × Given B n m (now sources) (now targets) (now «wire_delays»)) ⌝ }
     requires { ⌜ WiresLong m (now sources) (now targets) (now «wire_delays») ⌝ }
-    requires { ⌜ NodesLong (plot (now kinds) (now lefts) (now gates) (now rights) (now parents)) ⌝ }
-    ensures planted { λ r. ⌜ ((B : Block) → Given B n m (now (sources .entry)) (now (targets .entry)) (now («wire_delays» .entry)) → PlantedOrNot B r (plot (now (kinds .entry)) (now (lefts .entry)) (now (gates .entry)) (now (rights .entry)) (now (parents .entry))) (plot (now (kinds .exit)) (now (lefts .exit)) (now (gates .exit)) (now (rights .exit)) (now (parents .exit)))) ⌝ }
-    ensures long { λ r. ⌜ NodesLong (plot (now (kinds .exit)) (now (lefts .exit)) (now (gates .exit)) (now (rights .exit)) (now (parents .exit))) ⌝ }
+    requires { ⌜ tree-words ≤ length (now tree) ⌝ }
+    ensures planted { λ r. ⌜ ((B : Block) → Given B n m (now (sources .entry)) (now (targets .entry)) (now («wire_delays» .entry)) → PlantedOrNot B r (now (tree .entry)) (now (tree .exit))) ⌝ }
 {
     let mut live = [0u32; MAX_WIRES];
     let mut target = [0u32; MAX_WIRES];
@@ -58,20 +55,7 @@ pub fn plant_block(
     );
     match answer {
         Answer::Unfit => 0,
-        Answer::Lone => plant_lone(0, kinds, lefts, gates, rights, parents),
-        Answer::Root(root, _) => plant(
-            root,
-            0,
-            (n - 1) as u32,
-            &kind,
-            &left,
-            &gate,
-            &right,
-            kinds,
-            lefts,
-            gates,
-            rights,
-            parents,
-        ),
+        Answer::Lone => plant_lone(0, tree),
+        Answer::Root(root, _) => plant(root, 0, (n - 1) as u32, &kind, &left, &gate, &right, tree),
     }
 }

@@ -58,9 +58,7 @@ measurable-on able e =
     record {
       left-below = able .left-below;
       right-below = able .right-below;
-      lefts-long = able .lefts-long;
-      gates-long = able .gates-long;
-      rights-long = able .rights-long;
+      few-nodes = able .few-nodes;
       lengths-long = omega (arith, able .lengths-long);
       gate-in = able .gate-in;
       short = able .short;

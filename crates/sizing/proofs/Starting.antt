@@ -33,9 +33,6 @@ module _ {P : Plan} {S : State} (able : Sizable P S) where
         some-node = able .some-node;
         whole = able .whole;
         lent = record {
-          lefts-long = able .lefts-long;
-          gates-long = able .gates-long;
-          rights-long = able .rights-long;
           room = able .room;
           gate-room = λ k l e. room (gate (P .nodes) k) (in-gates k l e);
           gate-gain = λ k l e.

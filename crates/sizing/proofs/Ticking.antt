@@ -27,6 +27,10 @@ pub run-some : (ticks gain width r : ℕ) → ¬ (gain ≡ 0) → r ≡ min tick
 unfolding run-of
 run-some ticks gain width r d e = rw (ne-eqb gain 0 d) e
 
+-- the next run, by a head that is read
+pub run-read : (ticks : ℕ) {r : ℕ} {a b : Head} → a ≡ b → r ≡ run-of ticks (a .gain) (a .width) → r ≡ run-of ticks (b .gain) (b .width)
+run-read ticks e q = q ∙ ap (λ (h : Head). run-of ticks (h .gain) (h .width)) e
+
 -- what a run says: it is none, and there is no head, no width or no tick left; or it fits
 run-zero : (ticks gain width : ℕ) → run-of ticks gain width ≡ 0 → (0 < gain → 0 < width) → (ticks ≡ 0) ⊎ (gain ≡ 0)
 unfolding run-of

@@ -4,6 +4,7 @@ use mathlib.Core.List.{List}
 use Prim.Native.Nat.{ℕ, _+_, _-_, _^_, _≤_, _<_}
 use lib.ListN.{length, getD, replicate}
 use Rattle.parts.specs.Nodes.{Nodes}
+use Rattle.planting.specs.Copy.{max-nodes}
 use Rattle.optimum.specs.Tree.{count, zeros, longest}
 use Rattle.optimum.specs.Handout.{raise}
 use Rattle.optimum.specs.Increases.{read, raise-list}
@@ -23,13 +24,11 @@ pub record Lengths (N : Nodes) (d : ℕ → ℕ) (lengths : List ℕ) (k : ℕ) 
 abbrev pub delays-in : List ℕ → ℕ → ℕ
 delays-in delays g = getD delays g 0
 
--- The lengths of all nodes can be computed: children have smaller numbers, the arrays have a place for each node and each gate, and no length is too great.
+-- The lengths of all nodes can be computed: children have smaller numbers, there is a place for each node and each gate, and no length is too great.
 pub record Measurable (N : Nodes) (delays lengths : List ℕ) : Type 0 where
   pub left-below : (k : ℕ) → k < node-count N → 0 < kind N k → left N k < k
   pub right-below : (k : ℕ) → k < node-count N → 0 < kind N k → right N k < k
-  pub lefts-long : node-count N ≤ length (N .lefts)
-  pub gates-long : node-count N ≤ length (N .gates)
-  pub rights-long : node-count N ≤ length (N .rights)
+  pub few-nodes : node-count N ≤ max-nodes
   pub lengths-long : node-count N ≤ length lengths
   pub gate-in : (k : ℕ) → k < node-count N → kind N k ≡ 1 → gate N k < length delays
   pub short : (k : ℕ) → k < node-count N → longest (delays-in delays) (part N k) (zeros (part N k)) < 2 ^ 32
@@ -75,9 +74,6 @@ pub record Sizable (P : Plan) (S : State) : Type 0 where
   pub above : (k : ℕ) → k < node-count (P .nodes) → k < parent (P .parents) k
   pub some-node : 0 < node-count (P .nodes)
   pub whole : (g : ℕ) → g < P .gate-count → 0 < count (part (P .nodes) (root P)) g
-  pub lefts-long : node-count (P .nodes) ≤ length (P .nodes .lefts)
-  pub gates-long : node-count (P .nodes) ≤ length (P .nodes .gates)
-  pub rights-long : node-count (P .nodes) ≤ length (P .nodes .rights)
   pub room : (k : ℕ) → k < node-count (P .nodes) → Room (S .nodes) k
   pub gate-room : (g : ℕ) → g < P .gate-count → Room (S .gates) g
   pub one-each : length (S .increases) ≡ P .gate-count

@@ -1,17 +1,16 @@
 // Ticks spent at a node run by run, and the curve of the runs: neighbours of one gain are joined. With ticks for all steps it is the curve of the node.
 use crate::ticks::next_run;
+use blockwords::BlockWords;
 use handout::series_give_out;
-use heads::store::GateKeys;
-use heads::store::NodeKeys;
-use model::limits::GateNumbers;
-use model::limits::StepNumbers;
-use planting::NodeNumbers;
+use heads::head_words::HeadWords;
+use heads::store::node_entry;
+use planting::tree_words::TreeWords;
 use ties::gain_in;
 ghost use mathlib.Core.Path.{_≡_};
 ghost use Prim.Native.Nat.{ℕ, _+_, _-_, _^_, _≤_, _<_};
 ghost use lib.ListN.{length, getD};
 ghost use Rattle.lists.specs.Search.{Says};
-ghost use Rattle.heads.specs.Plan.{plan, heads-in, StepsLent};
+ghost use Rattle.heads.specs.Plan.{plan, StepsHeld};
 ghost use Rattle.handout.specs.State.{state};
 ghost use Rattle.sizing.specs.Pairs.{Noted, Curvable, Spent};
 
@@ -56,58 +55,35 @@ pub fn spend_ticks(
     i: usize,
     ticks: u32,
     steps: usize,
-    n: u32,
-    kinds: &[u32],
-    lefts: &NodeNumbers,
-    gates: &NodeNumbers,
-    rights: &NodeNumbers,
-    parents: &NodeNumbers,
-    counts: &GateNumbers,
-    step_widths: &StepNumbers,
-    drops: &StepNumbers,
-    inputs: &GateNumbers,
+    block: &BlockWords,
+    tree: &TreeWords,
     increases: &mut [u32],
-    gate_widths: &mut GateNumbers,
-    gate_keys: &mut GateKeys,
-    widths: &mut NodeNumbers,
-    keys: &mut NodeKeys,
+    heads: &mut HeadWords,
     pair_widths: &mut [u32],
     pair_gains: &mut [u32],
 ) -> usize
-    requires { ⌜ Curvable (plan n (now kinds) (now lefts) (now gates) (now rights) (now parents) (heads-in n (now counts) (now «step_widths») (now drops) (now inputs))) (state (now increases) (now «gate_widths») (now «gate_keys») (now widths) (now keys)) i steps ⌝ }
-    requires { ⌜ StepsLent n (now counts) (now «step_widths») (now drops) (now inputs) ⌝ }
+    requires { ⌜ Curvable (plan (now block) (now tree)) (state (now increases) (now heads)) i steps ⌝ }
+    requires { ⌜ StepsHeld (now block) ⌝ }
     requires { ⌜ (steps ≤ length (now «pair_widths»)) × (steps ≤ length (now «pair_gains»)) ⌝ }
-    ensures { λ r. ⌜ Spent (plan n (now (kinds .entry)) (now (lefts .entry)) (now (gates .entry)) (now (rights .entry)) (now (parents .entry)) (heads-in n (now (counts .entry)) (now («step_widths» .entry)) (now (drops .entry)) (now (inputs .entry)))) (now (increases .entry)) (now (increases .exit)) i ticks steps r (now («pair_widths» .entry)) (now («pair_gains» .entry)) (now («pair_widths» .exit)) (now («pair_gains» .exit)) ⌝ }
+    ensures { λ r. ⌜ Spent (plan (now (block .entry)) (now (tree .entry))) (now (increases .entry)) (now (increases .exit)) i ticks steps r (now («pair_widths» .entry)) (now («pair_gains» .entry)) (now («pair_widths» .exit)) (now («pair_gains» .exit)) ⌝ }
 {
     let mut left = ticks;
     let mut count: usize = 0;
     let mut k: usize = 0;
     while k < steps {
-        let gain = gain_in(keys[i]);
-        let run = next_run(left, gain, widths[i]);
+        let head = node_entry(&*heads, i);
+        let run = next_run(left, head);
         if run == 0 {
             return count;
         }
-        count = note(count, run, gain as u32, pair_widths, pair_gains);
-        series_give_out(
-            i,
+        count = note(
+            count,
             run,
-            n,
-            kinds,
-            lefts,
-            gates,
-            rights,
-            parents,
-            counts,
-            step_widths,
-            drops,
-            inputs,
-            increases,
-            gate_widths,
-            gate_keys,
-            widths,
-            keys,
+            gain_in(head.key) as u32,
+            pair_widths,
+            pair_gains,
         );
+        series_give_out(i, run, block, tree, increases, heads);
         left -= run;
         k += 1;
     }

@@ -1,11 +1,11 @@
--- What a block whose tree stands in node arrays gives the functions of sizing: all that they ask, and what their results are to the block.
+-- What a block whose tree stands in words gives the functions of sizing: all that they ask, and what their results are to the block.
 -- Assumes nothing.
 use mathlib.Core.Path.{_≡_, refl, sym, _∙_, ap}
 use mathlib.Core.List.{List, map}
 use Prim.Native.Nat.{ℕ, _+_, _-_, _*_, _^_, _≤_, _<_, max}
 use native.Mathlib.Nat.{mul-le-mul-right}
 use native.Mathlib.Omega.{arith}
-use lib.ListN.{length, getD, length-map, length-replicate, List·getD-map}
+use lib.ListN.{length, getD, replicate, length-map, length-replicate, List·getD-map}
 use Rattle.lists.specs.Sum.{sum}
 use Rattle.lists.specs.Over.{over}
 use Rattle.lists.proofs.Sum.{sum-same, sum-le}
@@ -14,7 +14,6 @@ use Rattle.model.specs.Limits.{max-gates, max-steps, max-width, max-pairs, max-
 use Rattle.model.specs.Block.{Block, gate, gate-count}
 use Rattle.model.specs.Gain.{saving}
 use Rattle.model.specs.Curve.{Pair}
-use Rattle.model.specs.InTime.{no-increase}
 use Rattle.ordering.proofs.Front.{is-over}
 use Rattle.gains.specs.Steps as Gains
 use Rattle.gains.specs.Savings.{Earnable, ListSaving, most-of-gate}
@@ -32,7 +31,9 @@ use Rattle.optimum.proofs.BlockTree.{block-is-tree}
 use Rattle.optimum.proofs.Range.{block-gain}
 use Rattle.planting.specs.Copy.{max-nodes}
 use Rattle.heads.specs.Plan.{Plan, part, heads-in, Sound, StepsLent}
-use Rattle.heads.specs.Stored.{Stored, Room}
+use Rattle.heads.specs.Stored.{head-entries}
+use Rattle.heads.proofs.Heads.{gate-place, node-place}
+use Rattle.handout.specs.State.{State, state}
 use Rattle.sizing.specs.Raise.{root, delays-in, Measurable, Raised, Sizable}
 use Rattle.sizing.specs.Pairs.{pair, pairs-in, Curvable, NodeCurve}
 use Rattle.sizing.proofs.Blocks.{Held, as-many, heads-are, heads-sound, increases-are, pairs-are}
@@ -43,23 +44,6 @@ use Rattle.sizing.proofs.Spent.{whole-curve}
 use Rattle.shaping.proofs.Facts.{join, no-wire-twice, descending, ranges}
 use Rattle.spending.specs.declared.tree.TreeCurve.{TreeCurve}
 use Rattle.spending.specs.TreeHeld.{TreeArrays, TreeHeld, tree-plan, RunsFound, CurveFound}
-
--- heads for so many places are stored
-pub record Places (H : Stored) (n : ℕ) : Type 0 where
-  pub widths-long : n ≤ length (H .widths)
-  pub keys-long : n ≤ length (H .keys)
-
-room-at : {H : Stored} {n k : ℕ} → Places H n → k < n → Room H k
-room-at p l = record { in-widths = omega (arith, p .widths-long); in-keys = omega (arith, p .keys-long) }
-
--- heads of no gain and width
-abbrev empty : ℕ → Stored
-empty n = record { widths = no-increase n; keys = no-increase n }
-
-empty-places : (n : ℕ) → Places (empty n) n
-empty-places n =
-    let l = length-replicate {A = ℕ} n 0 in
-    record { widths-long = omega arith; keys-long = omega arith }
 
 module _ {B : Block} {n : ℕ} {A : TreeArrays} (h : TreeHeld B n A) where
   abbrev heads : ℕ → ℕ → Head
@@ -96,10 +80,6 @@ module _ {B : Block} {n : ℕ} {A : TreeArrays} (h : TreeHeld B n A) where
   steps-lent =
       record {
         gates = omega (arith, gates-few);
-        counts-long = h .counts-long;
-        widths-long = h .widths-long;
-        drops-long = h .drops-long;
-        inputs-long = h .inputs-long;
         few = counts-small;
         drop-small = λ g j l b. steps-of g l .drop-small j b;
         input-small = λ g l. omega (arith, h .held .activity g l, input-most B (h .limits) g (omega (arith, count-is)));
@@ -115,19 +95,15 @@ module _ {B : Block} {n : ℕ} {A : TreeArrays} (h : TreeHeld B n A) where
         near = reach-small steps-lent narrow;
       }
 
-  pub sizable : {x : List ℕ} {G H : Stored} → length x ≡ n → Places G max-gates → Places H max-nodes
-      → Sizable plan-of (record { increases = x; gates = G; nodes = H })
-  sizable one-each gate-places node-places =
+  pub sizable : {x : List ℕ} (words : List ℕ) → length x ≡ n → head-entries * 2 ≤ length words → Sizable plan-of (state x words)
+  sizable words one-each long =
       record {
         sound = sound;
         above = h .above;
         some-node = h .some-node;
         whole = λ g l. rw (h .top) (omega (arith, is-tree .all g (omega (arith, count-is))));
-        lefts-long = h .lefts-long;
-        gates-long = h .gates-long;
-        rights-long = h .rights-long;
-        room = λ k l. room-at node-places (omega (arith, h .shaped .few-nodes));
-        gate-room = λ g l. room-at gate-places (omega (arith, gates-few));
+        room = λ k l. node-place words long k (omega (arith, h .shaped .few-nodes));
+        gate-room = λ g l. gate-place words long g (omega (arith, gates-few));
         one-each = one-each;
       }
 
@@ -136,9 +112,7 @@ module _ {B : Block} {n : ℕ} {A : TreeArrays} (h : TreeHeld B n A) where
       record {
         left-below = h .shaped .left-below;
         right-below = h .shaped .right-below;
-        lefts-long = h .lefts-long;
-        gates-long = h .gates-long;
-        rights-long = h .rights-long;
+        few-nodes = h .shaped .few-nodes;
         lengths-long = omega (arith, h .shaped .few-nodes);
         gate-in = λ k l e.
             omega (arith, gate-below (A .nodes) (A .parents) n k (h .shaped) l e (h .below k l), h .held .one-delay-each);
@@ -183,13 +157,12 @@ module _ {B : Block} {n : ℕ} {A : TreeArrays} (h : TreeHeld B n A) where
       sum-most k = omega (arith, sum-le n (λ (g : ℕ). getD (A .counts) g 0) (λ (g : ℕ). max-steps) counts-small, sum-constant n (λ (g : ℕ). max-steps) max-steps (λ i l. refl))
 
   -- from the raised start on, all runs can be noted
-  pub curvable : {x : List ℕ} {G H : Stored} {s : ℕ} → Raised plan-of (delays-in (A .delays)) (record { increases = x; gates = G; nodes = H })
-      → s ≡ sum n (λ (g : ℕ). getD (A .counts) g 0)
-      → Curvable plan-of (record { increases = x; gates = G; nodes = H }) (root plan-of) s
+  pub curvable : {S : State} {s : ℕ} → Raised plan-of (delays-in (A .delays)) S
+      → s ≡ sum n (λ (g : ℕ). getD (A .counts) g 0) → Curvable plan-of S (root plan-of) s
   curvable raised e = root-curvable at-rest raised root-gain (widths-small steps-lent narrow) (omega (arith, steps-few))
     where
-      at-rest : Sizable plan-of (record { increases = no-increase n; gates = empty max-gates; nodes = empty max-nodes })
-      at-rest = sizable (length-replicate {A = ℕ} n 0) (empty-places max-gates) (empty-places max-nodes)
+      at-rest : Sizable plan-of (state (replicate n 0) (replicate (head-entries * 2) 0))
+      at-rest = sizable (replicate (head-entries * 2) 0) (length-replicate {A = ℕ} n 0) (omega (arith, length-replicate {A = ℕ} (head-entries * 2) 0))
 
   -- with ticks for all steps, the pairs noted are those of the block's curve
   module _ {after ws gs ws′ gs′ : List ℕ} {ticks : ℕ} {r : TreeCurve} (found : RunsFound B (h .fits) n A ticks after ws gs ws′ gs′ r) (enough : max-pairs * max-width ≤ ticks) where

@@ -1,4 +1,4 @@
--- A series-parallel block whose tree stands in node arrays: what sizing it asks, and what is found.
+-- A series-parallel block whose tree stands in words: what sizing it asks, and what is found.
 use mathlib.Core.Path.{_≡_}
 use mathlib.Core.List.{List, map}
 use Prim.Native.Nat.{ℕ, _-_, _*_, _^_, _≤_, _<_}
@@ -14,6 +14,7 @@ use Rattle.model.specs.Refusal.{SoundNetwork}
 use Rattle.model.proofs.Limited.{BlockLimits}
 use Rattle.gains.specs.Savings.{ListSaving, most-of-gate}
 use Rattle.parts.specs.Nodes.{Nodes}
+use Rattle.planting.specs.TreeWords.{tree-nodes, tree-parents}
 use Rattle.optimum.specs.Tree.{Below, zeros, longest}
 use Rattle.optimum.specs.BlockTree.{block-tree, start-of, increases, pairs-of}
 use Rattle.heads.specs.Plan.{Plan, node-count, part, parent, heads-in, Shaped}
@@ -22,7 +23,7 @@ use Rattle.sizing.specs.Pairs.{Spent}
 use Rattle.sizing.proofs.Blocks.{Held}
 use Rattle.spending.specs.declared.tree.TreeCurve.{TreeCurve}
 
--- The arrays that stand while ticks are handed out: the tree's nodes with their parents, the gates' steps, input activities and delays.
+-- What stands while ticks are handed out: the tree's nodes with their parents, the gates' steps, input activities and delays.
 pub record TreeArrays : Type 0 where
   pub nodes : Nodes
   pub parents : List ℕ
@@ -32,11 +33,11 @@ pub record TreeArrays : Type 0 where
   pub inputs : List ℕ
   pub delays : List ℕ
 
-abbrev pub tree-arrays : List ℕ → List ℕ → List ℕ → List ℕ → List ℕ → List ℕ → List ℕ → List ℕ → List ℕ → List ℕ → TreeArrays
-tree-arrays kinds lefts gates rights parents counts step-widths drops inputs delays =
+abbrev pub tree-arrays : List ℕ → List ℕ → List ℕ → List ℕ → List ℕ → List ℕ → TreeArrays
+tree-arrays tree counts step-widths drops inputs delays =
     record {
-      nodes = record { kinds = kinds; lefts = lefts; gates = gates; rights = rights };
-      parents = parents;
+      nodes = tree-nodes tree;
+      parents = tree-parents tree;
       counts = counts;
       step-widths = step-widths;
       drops = drops;
@@ -58,14 +59,12 @@ pub record TreeHeld (B : Block) (n : ℕ) (A : TreeArrays) : Type 0 where
   pub above : (k : ℕ) → k < node-count (A .nodes) → k < parent (A .parents) k
   pub lasts : (k : ℕ) → k < node-count (A .nodes) → longest (delays-in (A .delays)) (part (A .nodes) k) (zeros (part (A .nodes) k)) ≤ start-of B (block-tree B fits)
   pub some-node : 0 < node-count (A .nodes)
-  pub lefts-long : node-count (A .nodes) ≤ length (A .nodes .lefts)
-  pub gates-long : node-count (A .nodes) ≤ length (A .nodes .gates)
-  pub rights-long : node-count (A .nodes) ≤ length (A .nodes .rights)
   pub counts-long : n ≤ length (A .counts)
   pub widths-long : n * max-steps ≤ length (A .step-widths)
   pub drops-long : n * max-steps ≤ length (A .drops)
   pub inputs-long : n ≤ length (A .inputs)
 
+-- the plan of the tree and the gates' heads
 abbrev pub tree-plan : ℕ → TreeArrays → Plan
 tree-plan n A = record { gate-count = n; nodes = A .nodes; parents = A .parents; heads = heads-in n (A .counts) (A .step-widths) (A .drops) (A .inputs) }
 

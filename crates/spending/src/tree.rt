@@ -1,13 +1,16 @@
-// The curve and the best increases of a block whose tree stands in node arrays.
+// The curve and the best increases of a block whose tree stands in words.
+use blockwords::BLOCK_WORDS;
+use blockwords::gathering::gather;
 use curve::count::count_off;
 use gains::saving::list_saving;
+use heads::head_words::ALL_HEADS;
+use heads::tree::node_count;
 use model::limits::GateNumbers;
-use model::limits::MAX_GATES;
 use model::limits::MAX_PAIRS;
 use model::limits::StepNumbers;
 use ordering::marking::at;
 use planting::MAX_NODES;
-use planting::NodeNumbers;
+use planting::tree_words::TreeWords;
 use sizing::curve::spend_ticks;
 use sizing::start::start;
 ghost use mathlib.Core.Path.{_≡_};
@@ -45,11 +48,7 @@ fn step_count(n: usize, counts: &[u32]) -> usize
 fn tree_runs(
     ticks: u32,
     n: u32,
-    kinds: &[u32],
-    lefts: &NodeNumbers,
-    gates: &NodeNumbers,
-    rights: &NodeNumbers,
-    parents: &NodeNumbers,
+    tree: &TreeWords,
     counts: &GateNumbers,
     step_widths: &StepNumbers,
     drops: &StepNumbers,
@@ -59,56 +58,26 @@ fn tree_runs(
     pair_widths: &mut [u32],
     pair_gains: &mut [u32],
 ) -> TreeCurve
-    requires { ⌜ ((B : Block) × TreeHeld B n (tree-arrays (now kinds) (now lefts) (now gates) (now rights) (now parents) (now counts) (now «step_widths») (now drops) (now inputs) (now delays))) ⌝ }
+    requires { ⌜ ((B : Block) × TreeHeld B n (tree-arrays (now tree) (now counts) (now «step_widths») (now drops) (now inputs) (now delays))) ⌝ }
     requires { ⌜ length (now increases) ≡ n ⌝ }
     requires { ⌜ (max-pairs ≤ length (now «pair_widths»)) × (max-pairs ≤ length (now «pair_gains»)) ⌝ }
-    ensures { λ r. ⌜ ((B : Block) (held : TreeHeld B n (tree-arrays (now (kinds .entry)) (now (lefts .entry)) (now (gates .entry)) (now (rights .entry)) (now (parents .entry)) (now (counts .entry)) (now («step_widths» .entry)) (now (drops .entry)) (now (inputs .entry)) (now (delays .entry)))) → RunsFound B (held .fits) n (tree-arrays (now (kinds .entry)) (now (lefts .entry)) (now (gates .entry)) (now (rights .entry)) (now (parents .entry)) (now (counts .entry)) (now («step_widths» .entry)) (now (drops .entry)) (now (inputs .entry)) (now (delays .entry))) ticks (now (increases .exit)) (now («pair_widths» .entry)) (now («pair_gains» .entry)) (now («pair_widths» .exit)) (now («pair_gains» .exit)) r) ⌝ }
+    ensures { λ r. ⌜ ((B : Block) (held : TreeHeld B n (tree-arrays (now (tree .entry)) (now (counts .entry)) (now («step_widths» .entry)) (now (drops .entry)) (now (inputs .entry)) (now (delays .entry)))) → RunsFound B (held .fits) n (tree-arrays (now (tree .entry)) (now (counts .entry)) (now («step_widths» .entry)) (now (drops .entry)) (now (inputs .entry)) (now (delays .entry))) ticks (now (increases .exit)) (now («pair_widths» .entry)) (now («pair_gains» .entry)) (now («pair_widths» .exit)) (now («pair_gains» .exit)) r) ⌝ }
 {
+    let mut block = [0u32; BLOCK_WORDS];
+    gather(n, counts, step_widths, drops, inputs, &mut block);
     let mut lengths = [0u32; MAX_NODES];
-    let mut gate_widths = [0u32; MAX_GATES];
-    let mut gate_keys = [0u64; MAX_GATES];
-    let mut widths = [0u32; MAX_NODES];
-    let mut keys = [0u64; MAX_NODES];
-    start(
-        n,
-        kinds,
-        lefts,
-        gates,
-        rights,
-        parents,
-        counts,
-        step_widths,
-        drops,
-        inputs,
-        delays,
-        &mut lengths,
-        increases,
-        &mut gate_widths,
-        &mut gate_keys,
-        &mut widths,
-        &mut keys,
-    );
+    let mut heads = [0u64; ALL_HEADS];
+    start(&block, tree, delays, &mut lengths, increases, &mut heads);
     let saving = list_saving(n as usize, counts, step_widths, drops, inputs, &*increases);
     let steps = step_count(n as usize, counts);
     let pairs = spend_ticks(
-        kinds.len() - 1,
+        node_count(tree) - 1,
         ticks,
         steps,
-        n,
-        kinds,
-        lefts,
-        gates,
-        rights,
-        parents,
-        counts,
-        step_widths,
-        drops,
-        inputs,
+        &block,
+        tree,
         increases,
-        &mut gate_widths,
-        &mut gate_keys,
-        &mut widths,
-        &mut keys,
+        &mut heads,
         pair_widths,
         pair_gains,
     );
@@ -118,11 +87,7 @@ fn tree_runs(
 // The curve of the block: its pairs to the front of the two slices. The increases are scratch.
 pub fn tree_curve(
     n: u32,
-    kinds: &[u32],
-    lefts: &NodeNumbers,
-    gates: &NodeNumbers,
-    rights: &NodeNumbers,
-    parents: &NodeNumbers,
+    tree: &TreeWords,
     counts: &GateNumbers,
     step_widths: &StepNumbers,
     drops: &StepNumbers,
@@ -132,19 +97,15 @@ pub fn tree_curve(
     pair_widths: &mut [u32],
     pair_gains: &mut [u32],
 ) -> TreeCurve
-    requires { ⌜ ((B : Block) × TreeHeld B n (tree-arrays (now kinds) (now lefts) (now gates) (now rights) (now parents) (now counts) (now «step_widths») (now drops) (now inputs) (now delays))) ⌝ }
+    requires { ⌜ ((B : Block) × TreeHeld B n (tree-arrays (now tree) (now counts) (now «step_widths») (now drops) (now inputs) (now delays))) ⌝ }
     requires { ⌜ length (now increases) ≡ n ⌝ }
     requires { ⌜ (max-pairs ≤ length (now «pair_widths»)) × (max-pairs ≤ length (now «pair_gains»)) ⌝ }
-    ensures { λ r. ⌜ ((B : Block) (held : TreeHeld B n (tree-arrays (now (kinds .entry)) (now (lefts .entry)) (now (gates .entry)) (now (rights .entry)) (now (parents .entry)) (now (counts .entry)) (now («step_widths» .entry)) (now (drops .entry)) (now (inputs .entry)) (now (delays .entry)))) → CurveFound B (held .fits) (now («pair_widths» .entry)) (now («pair_gains» .entry)) (now («pair_widths» .exit)) (now («pair_gains» .exit)) r) ⌝ }
+    ensures { λ r. ⌜ ((B : Block) (held : TreeHeld B n (tree-arrays (now (tree .entry)) (now (counts .entry)) (now («step_widths» .entry)) (now (drops .entry)) (now (inputs .entry)) (now (delays .entry)))) → CurveFound B (held .fits) (now («pair_widths» .entry)) (now («pair_gains» .entry)) (now («pair_widths» .exit)) (now («pair_gains» .exit)) r) ⌝ }
 {
     tree_runs(
         ALL_TICKS,
         n,
-        kinds,
-        lefts,
-        gates,
-        rights,
-        parents,
+        tree,
         counts,
         step_widths,
         drops,
@@ -160,11 +121,7 @@ pub fn tree_curve(
 pub fn tree_increases(
     ticks: u32,
     n: u32,
-    kinds: &[u32],
-    lefts: &NodeNumbers,
-    gates: &NodeNumbers,
-    rights: &NodeNumbers,
-    parents: &NodeNumbers,
+    tree: &TreeWords,
     counts: &GateNumbers,
     step_widths: &StepNumbers,
     drops: &StepNumbers,
@@ -172,20 +129,16 @@ pub fn tree_increases(
     delays: &[u32],
     increases: &mut [u32],
 ) -> u64
-    requires { ⌜ ((B : Block) × TreeHeld B n (tree-arrays (now kinds) (now lefts) (now gates) (now rights) (now parents) (now counts) (now «step_widths») (now drops) (now inputs) (now delays))) ⌝ }
+    requires { ⌜ ((B : Block) × TreeHeld B n (tree-arrays (now tree) (now counts) (now «step_widths») (now drops) (now inputs) (now delays))) ⌝ }
     requires { ⌜ (length (now increases) ≡ n) × (ticks ≤ max-time) ⌝ }
-    ensures { λ r. ⌜ ((B : Block) (held : TreeHeld B n (tree-arrays (now (kinds .entry)) (now (lefts .entry)) (now (gates .entry)) (now (rights .entry)) (now (parents .entry)) (now (counts .entry)) (now («step_widths» .entry)) (now (drops .entry)) (now (inputs .entry)) (now (delays .entry)))) → IncreasesFound B (held .fits) ticks (now (increases .exit)) r) ⌝ }
+    ensures { λ r. ⌜ ((B : Block) (held : TreeHeld B n (tree-arrays (now (tree .entry)) (now (counts .entry)) (now («step_widths» .entry)) (now (drops .entry)) (now (inputs .entry)) (now (delays .entry)))) → IncreasesFound B (held .fits) ticks (now (increases .exit)) r) ⌝ }
 {
     let mut pair_widths = [0u32; MAX_PAIRS];
     let mut pair_gains = [0u32; MAX_PAIRS];
     let found = tree_runs(
         ticks,
         n,
-        kinds,
-        lefts,
-        gates,
-        rights,
-        parents,
+        tree,
         counts,
         step_widths,
         drops,

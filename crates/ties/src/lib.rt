@@ -11,11 +11,11 @@ const RANKS: u64 = 256;
 // What a gate or a part would do with one more tick: the next `width` ticks gain the same. The key is gain * RANKS + (RANKS - 1 - rank). A gain of 0 says that there is none.
 pub struct Head {
     pub key: u64,
-    pub width: u32,
+    pub width: u64,
 }
 
 // The head with this width, gain and rank.
-pub fn keyed(width: u32, gain: u64, rank: u64) -> Head
+pub fn keyed(width: u64, gain: u64, rank: u64) -> Head
     requires { ⌜ (gain < 2 ^ 56) × (rank < ranks) ⌝ }
     ensures { λ r. ⌜ head-of r ≡ record { width = width; gain = gain; rank = rank } ⌝ }
 {
@@ -76,7 +76,7 @@ pub fn best_of(a: Head, b: Head, c: Head) -> Head
     a
 }
 
-fn smaller(x: u32, y: u32) -> u32
+fn smaller(x: u64, y: u64) -> u64
     ensures { λ r. ⌜ r ≡ min x y ⌝ }
 {
     if x < y { x } else { y }

@@ -11,49 +11,43 @@ use Rattle.answers.proofs.curve_lines.curve_held.Statement.{statement}
 use Rattle.answers.proofs.curve_lines.curve_held.Tie as tie
 
 plant-block-requires : tie.Need-plant-block-requires
-plant-block-requires c κs = ((block (c .before .before .before .before .before .before .before .before .before .before .before .before .before .pre .0 .3), given (c .before .before .before .before .before .before .before .before .before .before .before .before .before .pre .0 .3)), (wires-long (c .before .before .before .before .before .before .before .before .before .before .before .before .before .pre .0 .3), (record { kinds-long = omega arith; lefts-long = omega arith; gates-long = omega arith; rights-long = omega arith; parents-long = omega arith })))
+plant-block-requires c κs = ((block (c .before .before .before .before .before .before .before .before .before .pre .0 .3), given (c .before .before .before .before .before .before .before .before .before .pre .0 .3)), (wires-long (c .before .before .before .before .before .before .before .before .before .pre .0 .3), omega arith))
 
 returns : tie.Need-returns
-returns c = ((λ file arrival deadline h. unfit-line (c .before .plant-block .ensures .0 (block h) (given h) .none (c .if1 .taken))), tt)
+returns c = ((λ file arrival deadline h. unfit-line (c .before .plant-block .ensures (block h) (given h) .none (c .if1 .taken))), tt)
 
 start-time-requires : tie.Need-start-time-requires
-start-time-requires c κs = startable (c .before .before .before .before .before .before .before .before .before .before .before .before .before .before .before .pre .0 .3)
+start-time-requires c κs = startable (c .before .before .before .before .before .before .before .before .before .before .before .pre .0 .3)
 
 slice-aggregate-input-activities : tie.Need-slice-aggregate-input-activities
 slice-aggregate-input-activities c = search needs
 
 input-activities-requires : tie.Need-input-activities-requires
-input-activities-requires c κs = (summable (c .before .before .before .before .before .before .before .before .before .before .before .before .before .before .before .before .before .pre .0 .3), some (c .before .before .before .before .before .before .before .before .before .before .before .before .before .before .before .before .before .pre .0 .3))
+input-activities-requires c κs = (summable (c .before .before .before .before .before .before .before .before .before .before .before .before .before .pre .0 .3), some (c .before .before .before .before .before .before .before .before .before .before .before .before .before .pre .0 .3))
 
 cast-tree-curve : tie.Need-cast-tree-curve
-cast-tree-curve c = omega (arith, the-lent (c .before .before .before .before .before .before .before .before .before .before .before .before .before .before .before .before .before .before .before .pre .0 .3) .gates)
-
-array-share-prefix-kinds : tie.Need-array-share-prefix-kinds
-array-share-prefix-kinds c = omega (arith, (c .before .before .before .before .before .plant-block .ensures .0 (block (c .before .before .before .before .before .before .before .before .before .before .before .before .before .before .before .before .before .before .before .pre .0 .3)) (given (c .before .before .before .before .before .before .before .before .before .before .before .before .before .before .before .before .before .before .before .pre .0 .3)) .tree (omega (arith, c .before .before .before .before .if1 .left))) .few)
+cast-tree-curve c = omega (arith, the-lent (c .before .before .before .before .before .before .before .before .before .before .before .before .before .before .before .pre .0 .3) .gates)
 
 slice-aggregate-tree-curve : tie.Need-slice-aggregate-tree-curve
-slice-aggregate-tree-curve c = sym (length-take-le _ _ (omega (arith, (c .before .before .before .before .before .before .plant-block .ensures .0 (block (c .before .before .before .before .before .before .before .before .before .before .before .before .before .before .before .before .before .before .before .before .pre .0 .3)) (given (c .before .before .before .before .before .before .before .before .before .before .before .before .before .before .before .before .before .before .before .before .pre .0 .3)) .tree (omega (arith, c .before .before .before .before .before .if1 .left))) .few, (c .before .before .before .before .before .before .plant-block .ensures .1) .kinds-long)))
-
-slice-aggregate-tree-curve-2 : tie.Need-slice-aggregate-tree-curve-2
-slice-aggregate-tree-curve-2 c = sym (length-take-le _ _ (omega (arith, (c .before .before .before .before .before .before .before .before .before .before .before .before .before .before .before .before .before .before .before .before .before .before .before .before .before .before .pre .0 .3) .delays-long, the-lent (c .before .before .before .before .before .before .before .before .before .before .before .before .before .before .before .before .before .before .before .before .before .before .before .before .before .before .pre .0 .3) .gates)))
+slice-aggregate-tree-curve c = sym (length-take-le _ _ (omega (arith, (c .before .before .before .before .before .before .before .before .before .before .before .before .before .before .before .before .before .before .pre .0 .3) .delays-long, the-lent (c .before .before .before .before .before .before .before .before .before .before .before .before .before .before .before .before .before .before .pre .0 .3) .gates)))
 
 array-borrow-prefix-increases : tie.Need-array-borrow-prefix-increases
-array-borrow-prefix-increases c = omega (arith, the-lent (c .before .before .before .before .before .before .before .before .before .before .before .before .before .before .before .before .before .before .before .before .before .before .before .before .before .before .pre .0 .3) .gates)
+array-borrow-prefix-increases c = omega (arith, the-lent (c .before .before .before .before .before .before .before .before .before .before .before .before .before .before .before .before .before .before .pre .0 .3) .gates)
 
-slice-aggregate-tree-curve-3 : tie.Need-slice-aggregate-tree-curve-3
-slice-aggregate-tree-curve-3 c = sym (length-take-le _ _ (omega (arith, the-lent (c .before .before .before .before .before .before .before .before .before .before .before .before .before .before .before .before .before .before .before .before .before .before .before .before .before .before .before .pre .0 .3) .gates)))
+slice-aggregate-tree-curve-2 : tie.Need-slice-aggregate-tree-curve-2
+slice-aggregate-tree-curve-2 c = sym (length-take-le _ _ (omega (arith, the-lent (c .before .before .before .before .before .before .before .before .before .before .before .before .before .before .before .before .before .before .before .pre .0 .3) .gates)))
 
 tree-curve-requires : tie.Need-tree-curve-requires
-tree-curve-requires c κs = ((block (c .before .before .before .before .before .before .before .before .before .before .before .before .before .before .before .before .before .before .before .before .before .before .before .before .before .before .before .before .before .pre .0 .3), (tree-held (c .before .before .before .before .before .before .before .before .before .before .before .before .before .before .before .before .before .before .before .before .before .before .before .before .before .before .before .before .before .pre .0 .3) (c .before .before .before .before .before .before .before .before .before .before .before .before .before .before .before .plant-block .ensures .0 (block (c .before .before .before .before .before .before .before .before .before .before .before .before .before .before .before .before .before .before .before .before .before .before .before .before .before .before .before .before .before .pre .0 .3)) (given (c .before .before .before .before .before .before .before .before .before .before .before .before .before .before .before .before .before .before .before .before .before .before .before .before .before .before .before .before .before .pre .0 .3)) .tree (omega (arith, c .before .before .before .before .before .before .before .before .before .before .before .before .before .before .if1 .left))) (c .before .before .before .before .before .before .before .before .before .before .before .before .before .before .before .plant-block .ensures .1) _ (c .before .before .before .before .before .before .before .before .before .before .before .input-activities .kept .1 .1 .1 .1 .1 .1 .1 .0) (c .before .before .before .before .before .before .before .before .before .before .before .input-activities .ensures) (start-found (c .before .before .before .before .before .before .before .before .before .before .before .before .before .before .before .before .before .before .before .before .before .before .before .before .before .before .before .before .before .pre .0 .3) (c .before .before .before .before .before .before .before .before .before .before .before .before .before .start-time .ensures)) (c .before .before .before .before .before .before .before .before .before .before .before .before .before .start-time .ensures .small))), (length-take-le _ _ (omega (arith, the-lent (c .before .before .before .before .before .before .before .before .before .before .before .before .before .before .before .before .before .before .before .before .before .before .before .before .before .before .before .before .before .pre .0 .3) .gates)), c .before .before .before .before .before .before .before .before .before .before .before .before .before .before .before .before .before .before .before .before .before .before .before .before .before .before .before .before .before .pre .1))
+tree-curve-requires c κs = ((block (c .before .before .before .before .before .before .before .before .before .before .before .before .before .before .before .before .before .before .before .before .before .pre .0 .3), (tree-held (c .before .before .before .before .before .before .before .before .before .before .before .before .before .before .before .before .before .before .before .before .before .pre .0 .3) (c .before .before .before .before .before .before .before .before .before .before .before .plant-block .ensures (block (c .before .before .before .before .before .before .before .before .before .before .before .before .before .before .before .before .before .before .before .before .before .pre .0 .3)) (given (c .before .before .before .before .before .before .before .before .before .before .before .before .before .before .before .before .before .before .before .before .before .pre .0 .3)) .tree (omega (arith, c .before .before .before .before .before .before .before .before .before .before .if1 .left))) _ (c .before .before .before .before .before .before .before .input-activities .kept .1 .1 .1 .1 .1 .1 .1 .0) (c .before .before .before .before .before .before .before .input-activities .ensures) (start-found (c .before .before .before .before .before .before .before .before .before .before .before .before .before .before .before .before .before .before .before .before .before .pre .0 .3) (c .before .before .before .before .before .before .before .before .before .start-time .ensures)) (c .before .before .before .before .before .before .before .before .before .start-time .ensures .small))), (length-take-le _ _ (omega (arith, the-lent (c .before .before .before .before .before .before .before .before .before .before .before .before .before .before .before .before .before .before .before .before .before .pre .0 .3) .gates)), c .before .before .before .before .before .before .before .before .before .before .before .before .before .before .before .before .before .before .before .before .before .pre .1))
 
 same-length : tie.Need-same-length
-same-length c = c .before .before .before .before .before .tree-curve .kept .1 .1 .1 .1 .1 .1 .1 .1 .1 .1 .1 .1 .0
+same-length c = c .before .before .before .before .before .tree-curve .kept .1 .1 .1 .1 .1 .1 .1 .1 .0
 
 same-length-2 : tie.Need-same-length-2
-same-length-2 c = c .before .before .before .before .before .tree-curve .kept .1 .1 .1 .1 .1 .1 .1 .1 .1 .1 .1 .1 .1 .0
+same-length-2 c = c .before .before .before .before .before .tree-curve .kept .1 .1 .1 .1 .1 .1 .1 .1 .1 .0
 
 returns-2 : tie.Need-returns-2
-returns-2 c = ((λ file arrival deadline h. curve-line h ((tree-held h (c .before .before .before .before .before .before .before .before .before .before .before .before .before .before .before .before .before .before .before .before .before .plant-block .ensures .0 (block h) (given h) .tree (omega (arith, c .before .before .before .before .before .before .before .before .before .before .before .before .before .before .before .before .before .before .before .before .if1 .left))) (c .before .before .before .before .before .before .before .before .before .before .before .before .before .before .before .before .before .before .before .before .before .plant-block .ensures .1) _ (c .before .before .before .before .before .before .before .before .before .before .before .before .before .before .before .before .before .input-activities .kept .1 .1 .1 .1 .1 .1 .1 .0) (c .before .before .before .before .before .before .before .before .before .before .before .before .before .before .before .before .before .input-activities .ensures) (start-found h (c .before .before .before .before .before .before .before .before .before .before .before .before .before .before .before .before .before .before .before .start-time .ensures)) (c .before .before .before .before .before .before .before .before .before .before .before .before .before .before .before .before .before .before .before .start-time .ensures .small)) .fits) (c .before .before .before .before .before .tree-curve .ensures (block h) (tree-held h (c .before .before .before .before .before .before .before .before .before .before .before .before .before .before .before .before .before .before .before .before .before .plant-block .ensures .0 (block h) (given h) .tree (omega (arith, c .before .before .before .before .before .before .before .before .before .before .before .before .before .before .before .before .before .before .before .before .if1 .left))) (c .before .before .before .before .before .before .before .before .before .before .before .before .before .before .before .before .before .before .before .before .before .plant-block .ensures .1) _ (c .before .before .before .before .before .before .before .before .before .before .before .before .before .before .before .before .before .input-activities .kept .1 .1 .1 .1 .1 .1 .1 .0) (c .before .before .before .before .before .before .before .before .before .before .before .before .before .before .before .before .before .input-activities .ensures) (start-found h (c .before .before .before .before .before .before .before .before .before .before .before .before .before .before .before .before .before .before .before .start-time .ensures)) (c .before .before .before .before .before .before .before .before .before .before .before .before .before .before .before .before .before .before .before .start-time .ensures .small))) (start-found h (c .before .before .before .before .before .before .before .before .before .before .before .before .before .before .before .before .before .before .before .start-time .ensures))), curve-bounds (tree-held (c .before .before .before .before .before .before .before .before .before .before .before .before .before .before .before .before .before .before .before .before .before .before .before .before .before .before .before .before .before .before .before .before .before .before .before .pre .0 .3) (c .before .before .before .before .before .before .before .before .before .before .before .before .before .before .before .before .before .before .before .before .before .plant-block .ensures .0 (block (c .before .before .before .before .before .before .before .before .before .before .before .before .before .before .before .before .before .before .before .before .before .before .before .before .before .before .before .before .before .before .before .before .before .before .before .pre .0 .3)) (given (c .before .before .before .before .before .before .before .before .before .before .before .before .before .before .before .before .before .before .before .before .before .before .before .before .before .before .before .before .before .before .before .before .before .before .before .pre .0 .3)) .tree (omega (arith, c .before .before .before .before .before .before .before .before .before .before .before .before .before .before .before .before .before .before .before .before .if1 .left))) (c .before .before .before .before .before .before .before .before .before .before .before .before .before .before .before .before .before .before .before .before .before .plant-block .ensures .1) _ (c .before .before .before .before .before .before .before .before .before .before .before .before .before .before .before .before .before .input-activities .kept .1 .1 .1 .1 .1 .1 .1 .0) (c .before .before .before .before .before .before .before .before .before .before .before .before .before .before .before .before .before .input-activities .ensures) (start-found (c .before .before .before .before .before .before .before .before .before .before .before .before .before .before .before .before .before .before .before .before .before .before .before .before .before .before .before .before .before .before .before .before .before .before .before .pre .0 .3) (c .before .before .before .before .before .before .before .before .before .before .before .before .before .before .before .before .before .before .before .start-time .ensures)) (c .before .before .before .before .before .before .before .before .before .before .before .before .before .before .before .before .before .before .before .start-time .ensures .small)) (c .before .before .before .before .before .tree-curve .ensures (block (c .before .before .before .before .before .before .before .before .before .before .before .before .before .before .before .before .before .before .before .before .before .before .before .before .before .before .before .before .before .before .before .before .before .before .before .pre .0 .3)) (tree-held (c .before .before .before .before .before .before .before .before .before .before .before .before .before .before .before .before .before .before .before .before .before .before .before .before .before .before .before .before .before .before .before .before .before .before .before .pre .0 .3) (c .before .before .before .before .before .before .before .before .before .before .before .before .before .before .before .before .before .before .before .before .before .plant-block .ensures .0 (block (c .before .before .before .before .before .before .before .before .before .before .before .before .before .before .before .before .before .before .before .before .before .before .before .before .before .before .before .before .before .before .before .before .before .before .before .pre .0 .3)) (given (c .before .before .before .before .before .before .before .before .before .before .before .before .before .before .before .before .before .before .before .before .before .before .before .before .before .before .before .before .before .before .before .before .before .before .before .pre .0 .3)) .tree (omega (arith, c .before .before .before .before .before .before .before .before .before .before .before .before .before .before .before .before .before .before .before .before .if1 .left))) (c .before .before .before .before .before .before .before .before .before .before .before .before .before .before .before .before .before .before .before .before .before .plant-block .ensures .1) _ (c .before .before .before .before .before .before .before .before .before .before .before .before .before .before .before .before .before .input-activities .kept .1 .1 .1 .1 .1 .1 .1 .0) (c .before .before .before .before .before .before .before .before .before .before .before .before .before .before .before .before .before .input-activities .ensures) (start-found (c .before .before .before .before .before .before .before .before .before .before .before .before .before .before .before .before .before .before .before .before .before .before .before .before .before .before .before .before .before .before .before .before .before .before .before .pre .0 .3) (c .before .before .before .before .before .before .before .before .before .before .before .before .before .before .before .before .before .before .before .start-time .ensures)) (c .before .before .before .before .before .before .before .before .before .before .before .before .before .before .before .before .before .before .before .start-time .ensures .small))))
+returns-2 c = ((λ file arrival deadline h. curve-line h ((tree-held h (c .before .before .before .before .before .before .before .before .before .before .before .before .before .before .before .before .before .plant-block .ensures (block h) (given h) .tree (omega (arith, c .before .before .before .before .before .before .before .before .before .before .before .before .before .before .before .before .if1 .left))) _ (c .before .before .before .before .before .before .before .before .before .before .before .before .before .input-activities .kept .1 .1 .1 .1 .1 .1 .1 .0) (c .before .before .before .before .before .before .before .before .before .before .before .before .before .input-activities .ensures) (start-found h (c .before .before .before .before .before .before .before .before .before .before .before .before .before .before .before .start-time .ensures)) (c .before .before .before .before .before .before .before .before .before .before .before .before .before .before .before .start-time .ensures .small)) .fits) (c .before .before .before .before .before .tree-curve .ensures (block h) (tree-held h (c .before .before .before .before .before .before .before .before .before .before .before .before .before .before .before .before .before .plant-block .ensures (block h) (given h) .tree (omega (arith, c .before .before .before .before .before .before .before .before .before .before .before .before .before .before .before .before .if1 .left))) _ (c .before .before .before .before .before .before .before .before .before .before .before .before .before .input-activities .kept .1 .1 .1 .1 .1 .1 .1 .0) (c .before .before .before .before .before .before .before .before .before .before .before .before .before .input-activities .ensures) (start-found h (c .before .before .before .before .before .before .before .before .before .before .before .before .before .before .before .start-time .ensures)) (c .before .before .before .before .before .before .before .before .before .before .before .before .before .before .before .start-time .ensures .small))) (start-found h (c .before .before .before .before .before .before .before .before .before .before .before .before .before .before .before .start-time .ensures))), curve-bounds (tree-held (c .before .before .before .before .before .before .before .before .before .before .before .before .before .before .before .before .before .before .before .before .before .before .before .before .before .before .before .pre .0 .3) (c .before .before .before .before .before .before .before .before .before .before .before .before .before .before .before .before .before .plant-block .ensures (block (c .before .before .before .before .before .before .before .before .before .before .before .before .before .before .before .before .before .before .before .before .before .before .before .before .before .before .before .pre .0 .3)) (given (c .before .before .before .before .before .before .before .before .before .before .before .before .before .before .before .before .before .before .before .before .before .before .before .before .before .before .before .pre .0 .3)) .tree (omega (arith, c .before .before .before .before .before .before .before .before .before .before .before .before .before .before .before .before .if1 .left))) _ (c .before .before .before .before .before .before .before .before .before .before .before .before .before .input-activities .kept .1 .1 .1 .1 .1 .1 .1 .0) (c .before .before .before .before .before .before .before .before .before .before .before .before .before .input-activities .ensures) (start-found (c .before .before .before .before .before .before .before .before .before .before .before .before .before .before .before .before .before .before .before .before .before .before .before .before .before .before .before .pre .0 .3) (c .before .before .before .before .before .before .before .before .before .before .before .before .before .before .before .start-time .ensures)) (c .before .before .before .before .before .before .before .before .before .before .before .before .before .before .before .start-time .ensures .small)) (c .before .before .before .before .before .tree-curve .ensures (block (c .before .before .before .before .before .before .before .before .before .before .before .before .before .before .before .before .before .before .before .before .before .before .before .before .before .before .before .pre .0 .3)) (tree-held (c .before .before .before .before .before .before .before .before .before .before .before .before .before .before .before .before .before .before .before .before .before .before .before .before .before .before .before .pre .0 .3) (c .before .before .before .before .before .before .before .before .before .before .before .before .before .before .before .before .before .plant-block .ensures (block (c .before .before .before .before .before .before .before .before .before .before .before .before .before .before .before .before .before .before .before .before .before .before .before .before .before .before .before .pre .0 .3)) (given (c .before .before .before .before .before .before .before .before .before .before .before .before .before .before .before .before .before .before .before .before .before .before .before .before .before .before .before .pre .0 .3)) .tree (omega (arith, c .before .before .before .before .before .before .before .before .before .before .before .before .before .before .before .before .if1 .left))) _ (c .before .before .before .before .before .before .before .before .before .before .before .before .before .input-activities .kept .1 .1 .1 .1 .1 .1 .1 .0) (c .before .before .before .before .before .before .before .before .before .before .before .before .before .input-activities .ensures) (start-found (c .before .before .before .before .before .before .before .before .before .before .before .before .before .before .before .before .before .before .before .before .before .before .before .before .before .before .before .pre .0 .3) (c .before .before .before .before .before .before .before .before .before .before .before .before .before .before .before .start-time .ensures)) (c .before .before .before .before .before .before .before .before .before .before .before .before .before .before .before .start-time .ensures .small))))
 
 pub curve-held-spec : {M : Type 1} → statement M
-curve-held-spec = tie.close (tie.spec plant-block-requires returns start-time-requires slice-aggregate-input-activities input-activities-requires cast-tree-curve array-share-prefix-kinds slice-aggregate-tree-curve slice-aggregate-tree-curve-2 array-borrow-prefix-increases slice-aggregate-tree-curve-3 tree-curve-requires same-length same-length-2 returns-2)
+curve-held-spec = tie.close (tie.spec plant-block-requires returns start-time-requires slice-aggregate-input-activities input-activities-requires cast-tree-curve slice-aggregate-tree-curve array-borrow-prefix-increases slice-aggregate-tree-curve-2 tree-curve-requires same-length same-length-2 returns-2)

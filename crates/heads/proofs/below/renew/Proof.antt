@@ -1,17 +1,17 @@
--- `heads::below::renew` meets its contract: the head found is stored. Assumes nothing.
+-- `heads::below::renew` meets its contract. Assumes nothing.
 use borrow.Author.Needs.{needs}
-use Rattle.heads.proofs.Making.{renewed}
+use Rattle.heads.proofs.NodeCalls.{own-room, head-stored}
 use Rattle.heads.proofs.below.renew.Statement.{statement}
 use Rattle.heads.proofs.below.renew.Tie as tie
 
 head-below-requires : tie.Need-head-below-requires
-head-below-requires c κs = search needs
+head-below-requires c κs = c .before .pre
 
-write-head-requires : tie.Need-write-head-requires
-write-head-requires c κs = c .before .before .before .before .before .before .before .before .before .before .before .before .before .pre .room
+write-node-requires : tie.Need-write-node-requires
+write-node-requires c κs = own-room (c .before .before .before .pre)
 
 returns : tie.Need-returns
-returns c = renewed (c .before .before .before .before .before .before .before .before .before .before .before .before .before .before .pre) (c .write-head .ensures) (c .before .before .before .head-below .ensures)
+returns c = head-stored (c .before .before .before .before .pre) (c .write-node .ensures) (c .before .before .head-below .ensures)
 
 pub renew-spec : {M : Type 1} → statement M
-renew-spec = tie.close (tie.spec head-below-requires write-head-requires returns)
+renew-spec = tie.close (tie.spec head-below-requires write-node-requires returns)

@@ -1,88 +1,44 @@
 -- `planting::node::write_parent` meets its contract. Assumes nothing.
 use borrow.Author.Needs.{needs}
-use native.Mathlib.Omega.{arith}
-use Prim.Native.Nat.{_-_}
-use lib.ListN.{length-set}
+use Rattle.planting.proofs.Writing.{left-asked, right-asked, parents-done}
 use Rattle.planting.proofs.node.write_parent.Statement.{statement}
 use Rattle.planting.proofs.node.write_parent.Tie as tie
 
-mul-kinds : tie.Need-mul-kinds
-mul-kinds c = search needs
+sub-write-node : tie.Need-sub-write-node
+sub-write-node c = search needs
 
-slice-write-kinds : tie.Need-slice-write-kinds
-slice-write-kinds c = search needs
+cast-write-node : tie.Need-cast-write-node
+cast-write-node c = search needs
 
-sub-lefts : tie.Need-sub-lefts
-sub-lefts c = search needs
+sub-write-node-2 : tie.Need-sub-write-node-2
+sub-write-node-2 c = search needs
 
-cast-lefts : tie.Need-cast-lefts
-cast-lefts c = search needs
+cast-write-node-2 : tie.Need-cast-write-node-2
+cast-write-node-2 c = search needs
 
-mul-lefts : tie.Need-mul-lefts
-mul-lefts c = search needs
+write-node-requires : tie.Need-write-node-requires
+write-node-requires c κs = c .before .pre .0
 
-slice-write-lefts : tie.Need-slice-write-lefts
-slice-write-lefts c = search needs
+sub-write-parent-of : tie.Need-sub-write-parent-of
+sub-write-parent-of c = search needs
 
-mul-gates : tie.Need-mul-gates
-mul-gates c = search needs
+cast-write-parent-of : tie.Need-cast-write-parent-of
+cast-write-parent-of c = search needs
 
-slice-write-gates : tie.Need-slice-write-gates
-slice-write-gates c = search needs
+write-parent-of-requires : tie.Need-write-parent-of-requires
+write-parent-of-requires c κs = left-asked (c .before .before .before .args .x) (c .before .before .before .args .l) (c .before .before .before .args .m) (c .before .before .before .args .r) (c .before .before .before .pre .0) (c .before .before .before .pre .1 .0) (c .before .before .before .pre .1 .1) (c .before .write-node .ensures)
 
-sub-rights : tie.Need-sub-rights
-sub-rights c = search needs
+sub-write-parent-of-2 : tie.Need-sub-write-parent-of-2
+sub-write-parent-of-2 c = search needs
 
-cast-rights : tie.Need-cast-rights
-cast-rights c = search needs
+cast-write-parent-of-2 : tie.Need-cast-write-parent-of-2
+cast-write-parent-of-2 c = search needs
 
-mul-rights : tie.Need-mul-rights
-mul-rights c = search needs
-
-slice-write-rights : tie.Need-slice-write-rights
-slice-write-rights c = search needs
-
-cast-parents : tie.Need-cast-parents
-cast-parents c = search needs
-
-sub-parents : tie.Need-sub-parents
-sub-parents c = search needs
-
-mul-parents : tie.Need-mul-parents
-mul-parents c = search needs
-
-slice-write-parents : tie.Need-slice-write-parents
-slice-write-parents c = search needs
-
-cast-parents-2 : tie.Need-cast-parents-2
-cast-parents-2 c = search needs
-
-sub-parents-2 : tie.Need-sub-parents-2
-sub-parents-2 c = search needs
-
-mul-parents-2 : tie.Need-mul-parents-2
-mul-parents-2 c = search needs
-
-slice-write-parents-2 : tie.Need-slice-write-parents-2
-slice-write-parents-2 c = rw (length-set (c .args .parents .now) (c .args .l - 1) (c .args .r)) (omega (arith, c .pre .0 .parent-room, c .pre .1 .1))
-
-same-length : tie.Need-same-length
-same-length c = search needs
-
-same-length-2 : tie.Need-same-length-2
-same-length-2 c = search needs
-
-same-length-3 : tie.Need-same-length-3
-same-length-3 c = search needs
-
-same-length-4 : tie.Need-same-length-4
-same-length-4 c = search needs
-
-same-length-5 : tie.Need-same-length-5
-same-length-5 c = search needs
+write-parent-of-requires-2 : tie.Need-write-parent-of-requires-2
+write-parent-of-requires-2 c κs = right-asked (c .before .before .before .before .before .args .x) (c .before .before .before .before .before .args .l) (c .before .before .before .before .before .args .m) (c .before .before .before .before .before .args .r) (c .before .before .before .before .before .pre .0) (c .before .before .before .before .before .pre .1 .0) (c .before .before .before .before .before .pre .1 .1) (c .before .before .before .write-node .ensures) (c .before .write-parent-of .ensures)
 
 returns : tie.Need-returns
-returns c = search needs
+returns c = parents-done (c .before .before .before .before .before .before .args .x) (c .before .before .before .before .before .before .args .l) (c .before .before .before .before .before .before .args .m) (c .before .before .before .before .before .before .args .r) (c .before .before .before .before .before .before .pre .0) (c .before .before .before .before .before .before .pre .1 .0) (c .before .before .before .before .before .before .pre .1 .1) (c .before .before .before .before .write-node .ensures) (c .before .before .write-parent-of .ensures) (c .write-parent-of2 .ensures)
 
 pub write-parent-spec : {M : Type 1} → statement M
-write-parent-spec = tie.close (tie.spec mul-kinds slice-write-kinds sub-lefts cast-lefts mul-lefts slice-write-lefts mul-gates slice-write-gates sub-rights cast-rights mul-rights slice-write-rights cast-parents sub-parents mul-parents slice-write-parents cast-parents-2 sub-parents-2 mul-parents-2 slice-write-parents-2 same-length same-length-2 same-length-3 same-length-4 same-length-5 returns)
+write-parent-spec = tie.close (tie.spec sub-write-node cast-write-node sub-write-node-2 cast-write-node-2 write-node-requires sub-write-parent-of cast-write-parent-of write-parent-of-requires sub-write-parent-of-2 cast-write-parent-of-2 write-parent-of-requires-2 returns)

@@ -2,9 +2,7 @@
 use borrow.Author.Needs.{needs}
 use Prim.Native.Nat.{_-_}
 use native.Mathlib.Omega.{arith}
-use Rattle.planting.specs.Planted.{lone}
-use Rattle.planting.proofs.Tops.{planted-as-long}
-use Rattle.shaping.proofs.PlantLaws.{given-network, reducible, some-gate, few-gates, few-wires, few-room, still-long, root-asked, unfit-planted, lone-planted, root-planted}
+use Rattle.shaping.proofs.PlantLaws.{given-network, reducible, some-gate, few-gates, few-wires, few-room, root-asked, unfit-planted, lone-planted, root-planted}
 use Rattle.shaping.proofs.plant.plant_block.Statement.{statement}
 use Rattle.shaping.proofs.plant.plant_block.Tie as tie
 
@@ -45,7 +43,7 @@ enum-told-2 : tie.Need-enum-told-2
 enum-told-2 c = search needs
 
 plant-lone-requires : tie.Need-plant-lone-requires
-plant-lone-requires c κs = few-room (c .before .before .before .before .before .before .before .before .before .before .before .before .before .before .before .before .before .before .before .before .before .before .before .before .before .before .before .before .before .pre .1 .1) 3 (omega arith)
+plant-lone-requires c κs = few-room (c .before .before .before .before .before .before .before .before .before .before .before .before .before .before .before .before .before .before .before .before .before .before .before .before .before .args .tree .now) (c .before .before .before .before .before .before .before .before .before .before .before .before .before .before .before .before .before .before .before .before .before .before .before .before .before .pre .1 .1) 3 (omega arith)
 
 enum-known-answer : tie.Need-enum-known-answer
 enum-known-answer c = search needs
@@ -57,16 +55,16 @@ cast-plant : tie.Need-cast-plant
 cast-plant c = record { fits = omega (arith, few-gates (c .before .before .before .before .before .before .before .before .before .before .before .before .before .before .before .before .before .before .before .before .before .before .before .before .before .pre .0 .1)) }
 
 plant-requires : tie.Need-plant-requires
-plant-requires c κs = let g = c .before .before .before .before .before .before .before .before .before .before .before .before .before .before .before .before .before .before .before .before .before .before .before .before .before .before .before .before .before .before .before .before .before .before .pre .0 .1 in root-asked g (rw (c .before .before .before .before .before .before .before .before .before .before .answer .given .1) at (c .before .before .before .before .before .before .before .before .before .before .before .before .before .before .before .before .before .before .before .before .before .reduce-network .ensures _ (given-network g) (g .wired))) (c .before .before .before .before .before .before .before .before .before .before .before .before .before .before .before .before .before .before .before .before .before .reduce-network .kept .1 .1 .1 .1 .1 .1 .0) (c .before .before .before .before .before .before .before .before .before .before .before .before .before .before .before .before .before .before .before .before .before .before .before .before .before .before .before .before .before .before .before .before .before .before .pre .1 .1) 0 (c .before .before .before .before .before .before .before .before .before .before .before .before .before .before .before .before .before .before .before .before .before .before .before .before .before .before .before .before .before .before .before .before .before .before .args .n - 1)
+plant-requires c κs = let g = c .before .before .before .before .before .before .before .before .before .before .before .before .before .before .before .before .before .before .before .before .before .before .before .before .before .before .before .before .before .before .pre .0 .1 in root-asked g (c .before .before .before .before .before .before .before .before .before .before .before .before .before .before .before .before .before .before .before .before .before .before .before .before .before .before .before .before .before .before .args .tree .now) (rw (c .before .before .before .before .before .before .answer .given .1) at (c .before .before .before .before .before .before .before .before .before .before .before .before .before .before .before .before .before .reduce-network .ensures _ (given-network g) (g .wired))) (c .before .before .before .before .before .before .before .before .before .before .before .before .before .before .before .before .before .reduce-network .kept .1 .1 .1 .1 .1 .1 .0) (c .before .before .before .before .before .before .before .before .before .before .before .before .before .before .before .before .before .before .before .before .before .before .before .before .before .before .before .before .before .before .pre .1 .1) 0 (c .before .before .before .before .before .before .before .before .before .before .before .before .before .before .before .before .before .before .before .before .before .before .before .before .before .before .before .before .before .before .args .n - 1)
 
 returns : tie.Need-returns
-returns c = (λ B g. unfit-planted g (rw (c .enum-told .given .1) at (c .before .before .before .before .before .before .before .before .before .before .before .reduce-network .ensures B (given-network g) (g .wired))), c .before .before .before .before .before .before .before .before .before .before .before .before .before .before .before .before .before .before .before .before .before .before .before .before .pre .1 .1)
+returns c = λ B g. unfit-planted g (rw (c .enum-told .given .1) at (c .before .before .before .before .before .before .before .before .before .before .before .reduce-network .ensures B (given-network g) (g .wired)))
 
 returns-2 : tie.Need-returns-2
-returns-2 c = (λ B g. lone-planted g (rw (c .before .before .before .before .before .before .enum-told2 .given .1) at (c .before .before .before .before .before .before .before .before .before .before .before .before .before .before .before .before .before .reduce-network .ensures B (given-network g) (g .wired))) (c .plant-lone .ensures .0) (c .plant-lone .ensures .1 .0) (c .plant-lone .ensures .1 .1), still-long (c .before .before .before .before .before .before .before .before .before .before .before .before .before .before .before .before .before .before .before .before .before .before .before .before .before .before .before .before .before .before .pre .1 .1) (planted-as-long (lone 0) (c .plant-lone .ensures .1 .1)))
+returns-2 c = λ B g. lone-planted g _ _ (rw (c .before .before .enum-told2 .given .1) at (c .before .before .before .before .before .before .before .before .before .before .before .before .before .reduce-network .ensures B (given-network g) (g .wired))) (c .plant-lone .ensures .0) (c .plant-lone .ensures .1 .0) (c .plant-lone .ensures .1 .1 .0) (c .plant-lone .ensures .1 .1 .1)
 
 returns-3 : tie.Need-returns-3
-returns-3 c = (λ B g. root-planted g (rw (c .before .before .before .before .before .before .before .before .before .before .before .answer .given .1) at (c .before .before .before .before .before .before .before .before .before .before .before .before .before .before .before .before .before .before .before .before .before .before .reduce-network .ensures B (given-network g) (g .wired))) (c .plant .ensures .0) (c .plant .ensures .1 .0) (c .plant .ensures .1 .1), still-long (c .before .before .before .before .before .before .before .before .before .before .before .before .before .before .before .before .before .before .before .before .before .before .before .before .before .before .before .before .before .before .before .before .before .before .before .pre .1 .1) (planted-as-long _ (c .plant .ensures .1 .1)))
+returns-3 c = λ B g. root-planted g _ _ (rw (c .before .before .before .before .before .before .before .answer .given .1) at (c .before .before .before .before .before .before .before .before .before .before .before .before .before .before .before .before .before .before .reduce-network .ensures B (given-network g) (g .wired))) (c .plant .ensures .0) (c .plant .ensures .1 .0) (c .plant .ensures .1 .1 .0) (c .plant .ensures .1 .1 .1)
 
 pub plant-block-spec : {M : Type 1} → statement M
 plant-block-spec = tie.close (tie.spec slice-aggregate-reduce-network slice-aggregate-reduce-network-2 slice-aggregate-reduce-network-3 slice-aggregate-reduce-network-4 slice-aggregate-reduce-network-5 slice-aggregate-reduce-network-6 slice-aggregate-reduce-network-7 slice-aggregate-reduce-network-8 slice-aggregate-reduce-network-9 reduce-network-requires enum-told enum-told-2 plant-lone-requires enum-known-answer sub-plant cast-plant plant-requires returns returns-2 returns-3)

@@ -2,78 +2,64 @@
 use borrow.Author.Needs.{needs}
 use mathlib.Core.Path.{_∙_}
 use native.Mathlib.Omega.{arith}
+use Rattle.heads.proofs.Reading.{node-in}
 use Rattle.sizing.proofs.Lifting.{raised-already, left-in, right-in, left-lift, right-lift, sides-stand, sides-levelled}
 use Rattle.sizing.proofs.raise.raise_sides.Statement.{statement}
 use Rattle.sizing.proofs.raise.raise_sides.Tie as tie
 
-mul-if1 : tie.Need-mul-if1
-mul-if1 c = omega (arith, (c .before .before .before .pre .1 .1 .0), c .before .before .before .good .1 .1 .0)
-
-shared-slice-read-if1 : tie.Need-shared-slice-read-if1
-shared-slice-read-if1 c = (c .before .before .before .before .pre .1 .1 .0)
+kind-at-requires : tie.Need-kind-at-requires
+kind-at-requires c κs = node-in _ _ (c .before .before .pre .1 .1 .0) (c .before .before .pre .0 .sound .shaped .few-nodes)
 
 returns : tie.Need-returns
-returns c = (c .before .before .before .before .before .pre .0, raised-already (c .before .before .before .before .before .pre .0) (c .before .before .before .before .before .pre .1 .1 .0) (c .if1 .taken))
+returns c = (c .before .before .before .before .pre .0, raised-already (c .before .before .before .before .pre .0) (c .before .before .before .before .pre .1 .1 .0) (rw (c .before .kind-at .ensures) at (c .if1 .taken)))
 
-mul-index : tie.Need-mul-index
-mul-index c = omega (arith, c .before .before .before .before .before .pre .1 .1 .0, c .before .before .before .before .before .pre .0 .sound .shaped .few-nodes)
+left-at-requires : tie.Need-left-at-requires
+left-at-requires c κs = node-in _ _ (c .before .before .before .before .pre .1 .1 .0) (c .before .before .before .before .pre .0 .sound .shaped .few-nodes)
 
-element-copy-out-index : tie.Need-element-copy-out-index
-element-copy-out-index c = omega (arith, c .before .before .before .before .before .pre .1 .1 .0, c .before .before .before .before .before .pre .0 .sound .shaped .few-nodes)
-
-index-requires : tie.Need-index-requires
-index-requires c κs = search needs
-
-mul-index-2 : tie.Need-mul-index-2
-mul-index-2 c = omega (arith, c .before .before .before .before .before .before .before .pre .1 .1 .0, c .before .before .before .before .before .before .before .pre .0 .sound .shaped .few-nodes)
-
-element-copy-out-index-2 : tie.Need-element-copy-out-index-2
-element-copy-out-index-2 c = omega (arith, c .before .before .before .before .before .before .before .pre .1 .1 .0, c .before .before .before .before .before .before .before .pre .0 .sound .shaped .few-nodes)
-
-index-requires-2 : tie.Need-index-requires-2
-index-requires-2 c κs = search needs
+right-at-requires : tie.Need-right-at-requires
+right-at-requires c κs = node-in _ _ (c .before .before .before .before .before .pre .1 .1 .0) (c .before .before .before .before .before .pre .0 .sound .shaped .few-nodes)
 
 mul-shortfall : tie.Need-mul-shortfall
-mul-shortfall c = omega (arith, right-in (c .before .before .before .before .before .before .before .before .before .pre .0) (c .before .before .before .before .before .before .before .before .before .pre .1 .1 .0) (c .before .before .before .before .if1 .left) (c .index2 .ensures), c .before .before .before .before .before .before .before .before .before .good .1 .1 .0)
+mul-shortfall c = omega (arith, right-in (c .before .before .before .before .before .before .pre .0) (c .before .before .before .before .before .before .pre .1 .1 .0) (rw (c .before .before .before .kind-at .ensures) at (c .before .before .if1 .left)) (c .right-at .ensures), c .before .before .before .before .before .before .pre .0 .sound .shaped .few-nodes)
 
 shared-slice-read-shortfall : tie.Need-shared-slice-read-shortfall
-shared-slice-read-shortfall c = omega (arith, right-in (c .before .before .before .before .before .before .before .before .before .before .pre .0) (c .before .before .before .before .before .before .before .before .before .before .pre .1 .1 .0) (c .before .before .before .before .before .if1 .left) (c .before .index2 .ensures), c .before .before .before .before .before .before .before .before .before .before .pre .1 .1 .1)
+shared-slice-read-shortfall c = omega (arith, right-in (c .before .before .before .before .before .before .before .pre .0) (c .before .before .before .before .before .before .before .pre .1 .1 .0) (rw (c .before .before .before .before .kind-at .ensures) at (c .before .before .before .if1 .left)) (c .before .right-at .ensures), c .before .before .before .before .before .before .before .pre .1 .1 .1)
 
 mul-shortfall-2 : tie.Need-mul-shortfall-2
-mul-shortfall-2 c = omega (arith, left-in (c .before .before .before .before .before .before .before .before .before .before .pre .0) (c .before .before .before .before .before .before .before .before .before .before .pre .1 .1 .0) (c .before .before .before .before .before .if1 .left) (c .before .before .before .index .ensures), c .before .before .before .before .before .before .before .before .before .before .good .1 .1 .0)
+mul-shortfall-2 c = omega (arith, left-in (c .before .before .before .before .before .before .before .pre .0) (c .before .before .before .before .before .before .before .pre .1 .1 .0) (rw (c .before .before .before .before .kind-at .ensures) at (c .before .before .before .if1 .left)) (c .before .before .left-at .ensures), c .before .before .before .before .before .before .before .pre .0 .sound .shaped .few-nodes)
 
 shared-slice-read-shortfall-2 : tie.Need-shared-slice-read-shortfall-2
-shared-slice-read-shortfall-2 c = omega (arith, left-in (c .before .before .before .before .before .before .before .before .before .before .before .pre .0) (c .before .before .before .before .before .before .before .before .before .before .before .pre .1 .1 .0) (c .before .before .before .before .before .before .if1 .left) (c .before .before .before .before .index .ensures), c .before .before .before .before .before .before .before .before .before .before .before .pre .1 .1 .1)
+shared-slice-read-shortfall-2 c = omega (arith, left-in (c .before .before .before .before .before .before .before .before .pre .0) (c .before .before .before .before .before .before .before .before .pre .1 .1 .0) (rw (c .before .before .before .before .before .kind-at .ensures) at (c .before .before .before .before .if1 .left)) (c .before .before .before .left-at .ensures), c .before .before .before .before .before .before .before .before .pre .1 .1 .1)
 
 shortfall-requires : tie.Need-shortfall-requires
 shortfall-requires c κs = search needs
 
 mul-shortfall-3 : tie.Need-mul-shortfall-3
-mul-shortfall-3 c = omega (arith, left-in (c .before .before .before .before .before .before .before .before .before .before .before .before .pre .0) (c .before .before .before .before .before .before .before .before .before .before .before .before .pre .1 .1 .0) (c .before .before .before .before .before .before .before .if1 .left) (c .before .before .before .before .before .index .ensures), c .before .before .before .before .before .before .before .before .before .before .before .before .good .1 .1 .0)
+mul-shortfall-3 c = omega (arith, left-in (c .before .before .before .before .before .before .before .before .before .pre .0) (c .before .before .before .before .before .before .before .before .before .pre .1 .1 .0) (rw (c .before .before .before .before .before .before .kind-at .ensures) at (c .before .before .before .before .before .if1 .left)) (c .before .before .before .before .left-at .ensures), c .before .before .before .before .before .before .before .before .before .pre .0 .sound .shaped .few-nodes)
 
 shared-slice-read-shortfall-3 : tie.Need-shared-slice-read-shortfall-3
-shared-slice-read-shortfall-3 c = omega (arith, left-in (c .before .before .before .before .before .before .before .before .before .before .before .before .before .pre .0) (c .before .before .before .before .before .before .before .before .before .before .before .before .before .pre .1 .1 .0) (c .before .before .before .before .before .before .before .before .if1 .left) (c .before .before .before .before .before .before .index .ensures), c .before .before .before .before .before .before .before .before .before .before .before .before .before .pre .1 .1 .1)
+shared-slice-read-shortfall-3 c = omega (arith, left-in (c .before .before .before .before .before .before .before .before .before .before .pre .0) (c .before .before .before .before .before .before .before .before .before .before .pre .1 .1 .0) (rw (c .before .before .before .before .before .before .before .kind-at .ensures) at (c .before .before .before .before .before .before .if1 .left)) (c .before .before .before .before .before .left-at .ensures), c .before .before .before .before .before .before .before .before .before .before .pre .1 .1 .1)
 
 mul-shortfall-4 : tie.Need-mul-shortfall-4
-mul-shortfall-4 c = omega (arith, right-in (c .before .before .before .before .before .before .before .before .before .before .before .before .before .pre .0) (c .before .before .before .before .before .before .before .before .before .before .before .before .before .pre .1 .1 .0) (c .before .before .before .before .before .before .before .before .if1 .left) (c .before .before .before .before .index2 .ensures), c .before .before .before .before .before .before .before .before .before .before .before .before .before .good .1 .1 .0)
+mul-shortfall-4 c = omega (arith, right-in (c .before .before .before .before .before .before .before .before .before .before .pre .0) (c .before .before .before .before .before .before .before .before .before .before .pre .1 .1 .0) (rw (c .before .before .before .before .before .before .before .kind-at .ensures) at (c .before .before .before .before .before .before .if1 .left)) (c .before .before .before .before .right-at .ensures), c .before .before .before .before .before .before .before .before .before .before .pre .0 .sound .shaped .few-nodes)
 
 shared-slice-read-shortfall-4 : tie.Need-shared-slice-read-shortfall-4
-shared-slice-read-shortfall-4 c = omega (arith, right-in (c .before .before .before .before .before .before .before .before .before .before .before .before .before .before .pre .0) (c .before .before .before .before .before .before .before .before .before .before .before .before .before .before .pre .1 .1 .0) (c .before .before .before .before .before .before .before .before .before .if1 .left) (c .before .before .before .before .before .index2 .ensures), c .before .before .before .before .before .before .before .before .before .before .before .before .before .before .pre .1 .1 .1)
+shared-slice-read-shortfall-4 c = omega (arith, right-in (c .before .before .before .before .before .before .before .before .before .before .before .pre .0) (c .before .before .before .before .before .before .before .before .before .before .before .pre .1 .1 .0) (rw (c .before .before .before .before .before .before .before .before .kind-at .ensures) at (c .before .before .before .before .before .before .before .if1 .left)) (c .before .before .before .before .before .right-at .ensures), c .before .before .before .before .before .before .before .before .before .before .before .pre .1 .1 .1)
 
 shortfall-requires-2 : tie.Need-shortfall-requires-2
 shortfall-requires-2 c κs = search needs
 
 ticks-out-requires : tie.Need-ticks-out-requires
-ticks-out-requires c κs = let r = left-lift (c .before .before .before .before .before .before .before .before .before .before .before .before .before .before .before .before .before .before .before .before .pre .0) (c .before .before .before .before .before .before .before .before .before .before .before .before .before .before .before .before .before .before .before .before .pre .1 .1 .0) (c .before .before .before .before .before .before .before .before .before .before .before .before .before .before .before .if1 .left) (c .before .before .before .before .before .before .before .before .before .before .before .before .before .index .ensures) in (r .0, (c .before .before .before .before .before .before .before .before .before .before .before .before .before .before .before .before .before .before .before .before .pre .1 .0, r .1))
+ticks-out-requires c κs = let r = left-lift (c .before .before .before .before .before .before .before .before .before .before .before .before .before .before .pre .0) (c .before .before .before .before .before .before .before .before .before .before .before .before .before .before .pre .1 .1 .0) (rw (c .before .before .before .before .before .before .before .before .before .before .before .kind-at .ensures) at (c .before .before .before .before .before .before .before .before .before .before .if1 .left)) (c .before .before .before .before .before .before .before .before .before .left-at .ensures) in (r .0, (c .before .before .before .before .before .before .before .before .before .before .before .before .before .before .pre .1 .0, r .1))
 
 ticks-out-requires-2 : tie.Need-ticks-out-requires-2
-ticks-out-requires-2 c κs = let r = right-lift (c .before .before .before .before .before .before .before .before .before .before .before .before .before .before .before .before .before .before .before .before .before .before .before .before .before .before .before .before .pre .0) (c .before .before .before .before .before .before .before .before .before .before .before .before .before .before .before .before .before .before .before .before .before .before .before .before .before .before .before .before .pre .1 .1 .0) (c .before .before .before .before .before .before .before .before .before .before .before .before .before .before .before .before .before .before .before .before .before .before .before .if1 .left) (c .before .before .before .before .before .before .before .before .before .before .before .before .before .before .before .before .before .before .before .before .before .index .ensures) (c .before .before .before .before .before .before .before .ticks-out .ensures) (c .before .before .before .before .before .before .before .before .before .before .before .before .before .before .before .before .before .before .before .index2 .ensures) in (r .0, (c .before .before .before .before .before .before .before .before .before .before .before .before .before .before .before .before .before .before .before .before .before .before .before .before .before .before .before .before .pre .1 .0, r .1))
+ticks-out-requires-2 c κs = let r = right-lift (c .before .before .before .before .before .before .before .before .before .before .before .before .before .before .before .before .before .before .before .pre .0) (c .before .before .before .before .before .before .before .before .before .before .before .before .before .before .before .before .before .before .before .pre .1 .1 .0) (rw (c .before .before .before .before .before .before .before .before .before .before .before .before .before .before .before .before .kind-at .ensures) at (c .before .before .before .before .before .before .before .before .before .before .before .before .before .before .before .if1 .left)) (c .before .before .before .before .before .before .before .before .before .before .before .before .before .before .left-at .ensures) (c .before .before .before .before .ticks-out .ensures) (c .before .before .before .before .before .before .before .before .before .before .before .before .before .right-at .ensures) in (r .0, (c .before .before .before .before .before .before .before .before .before .before .before .before .before .before .before .before .before .before .before .pre .1 .0, r .1))
 
 same-length : tie.Need-same-length
-same-length c = c .before .before .ticks-out2 .kept .1 .1 .1 .1 .1 .1 .1 .1 .1 .1 .1 .1 .0 ∙ c .before .before .before .before .before .before .before .before .before .before .ticks-out .kept .1 .1 .1 .1 .1 .1 .1 .1 .1 .1 .1 .1 .0
+same-length c = c .before .before .ticks-out2 .kept .1 .1 .1 .1 .0 ∙ c .before .before .before .before .before .before .before .ticks-out .kept .1 .1 .1 .1 .0
 
 returns-2 : tie.Need-returns-2
-returns-2 c = (sides-stand (c .before .before .before .before .before .before .before .before .before .before .before .before .before .before .before .before .before .before .before .before .before .before .before .before .before .before .before .before .before .before .before .pre .0) (c .before .before .before .before .before .before .before .before .before .before .before .before .before .before .before .before .before .before .before .before .before .before .before .before .before .before .before .before .before .before .before .pre .1 .1 .0) (c .before .before .before .before .before .before .before .before .before .before .before .before .before .before .before .before .before .before .before .before .before .before .before .before .before .before .if1 .left) (c .before .before .before .before .before .before .before .before .before .before .before .before .before .before .before .before .before .before .before .before .before .before .before .before .index .ensures) (c .before .before .before .before .before .before .before .before .before .before .ticks-out .ensures) (c .before .before .before .before .before .before .before .before .before .before .before .before .before .before .before .before .before .before .before .before .before .before .index2 .ensures) (c .before .before .ticks-out2 .ensures), sides-levelled (c .before .before .before .before .before .before .before .before .before .before .before .before .before .before .before .before .before .before .before .before .before .before .before .before .before .before .before .before .before .before .before .pre .0) (c .before .before .before .before .before .before .before .before .before .before .before .before .before .before .before .before .before .before .before .before .before .before .before .before .before .before .before .before .before .before .before .pre .1 .1 .0) (c .before .before .before .before .before .before .before .before .before .before .before .before .before .before .before .before .before .before .before .before .before .before .before .before .before .before .if1 .left) (c .before .before .before .before .before .before .before .before .before .before .before .before .before .before .before .before .before .before .before .before .before .before .before .before .index .ensures) (c .before .before .before .before .before .before .before .before .before .before .ticks-out .ensures) (c .before .before .before .before .before .before .before .before .before .before .before .before .before .before .before .before .before .before .before .before .before .before .index2 .ensures) (c .before .before .ticks-out2 .ensures) (c .before .before .before .before .before .before .before .before .before .before .before .before .before .before .before .before .before .before .before .shortfall .ensures) (c .before .before .before .before .before .before .before .before .before .before .before .before .before .before .before .before .shortfall2 .ensures))
+returns-2 c = (sides-stand (c .before .before .before .before .before .before .before .before .before .before .before .before .before .before .before .before .before .before .before .before .before .before .pre .0) (c .before .before .before .before .before .before .before .before .before .before .before .before .before .before .before .before .before .before .before .before .before .before .pre .1 .1 .0) (rw (c .before .before .before .before .before .before .before .before .before .before .before .before .before .before .before .before .before .before .before .kind-at .ensures) at (c .before .before .before .before .before .before .before .before .before .before .before .before .before .before .before .before .before .before .if1 .left)) (c .before .before .before .before .before .before .before .before .before .before .before .before .before .before .before .before .before .left-at .ensures) (c .before .before .before .before .before .before .before .ticks-out .ensures) (c .before .before .before .before .before .before .before .before .before .before .before .before .before .before .before .before .right-at .ensures) (c .before .before .ticks-out2 .ensures), sides-levelled (c .before .before .before .before .before .before .before .before .before .before .before .before .before .before .before .before .before .before .before .before .before .before .pre .0) (c .before .before .before .before .before .before .before .before .before .before .before .before .before .before .before .before .before .before .before .before .before .before .pre .1 .1 .0) (rw (c .before .before .before .before .before .before .before .before .before .before .before .before .before .before .before .before .before .before .before .kind-at .ensures) at (c .before .before .before .before .before .before .before .before .before .before .before .before .before .before .before .before .before .before .if1 .left)) (c .before .before .before .before .before .before .before .before .before .before .before .before .before .before .before .before .before .left-at .ensures) (c .before .before .before .before .before .before .before .ticks-out .ensures) (c .before .before .before .before .before .before .before .before .before .before .before .before .before .before .before .before .right-at .ensures) (c .before .before .ticks-out2 .ensures) (c .before .before .before .before .before .before .before .before .before .before .before .before .before .shortfall .ensures) (c .before .before .before .before .before .before .before .before .before .before .shortfall2 .ensures))
 
 pub raise-sides-spec : {M : Type 1} → statement M
-raise-sides-spec = tie.close (tie.spec mul-if1 shared-slice-read-if1 returns mul-index element-copy-out-index index-requires mul-index-2 element-copy-out-index-2 index-requires-2 mul-shortfall shared-slice-read-shortfall mul-shortfall-2 shared-slice-read-shortfall-2 shortfall-requires mul-shortfall-3 shared-slice-read-shortfall-3 mul-shortfall-4 shared-slice-read-shortfall-4 shortfall-requires-2 ticks-out-requires ticks-out-requires-2 same-length returns-2)
+raise-sides-spec = tie.close (tie.spec kind-at-requires returns left-at-requires right-at-requires mul-shortfall shared-slice-read-shortfall mul-shortfall-2 shared-slice-read-shortfall-2 shortfall-requires mul-shortfall-3 shared-slice-read-shortfall-3 mul-shortfall-4 shared-slice-read-shortfall-4 shortfall-requires-2 ticks-out-requires ticks-out-requires-2 same-length returns-2)

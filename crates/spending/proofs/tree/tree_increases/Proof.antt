@@ -12,7 +12,7 @@ slice-aggregate-tree-runs-2 : tie.Need-slice-aggregate-tree-runs-2
 slice-aggregate-tree-runs-2 c = search needs
 
 tree-runs-requires : tie.Need-tree-runs-requires
-tree-runs-requires c κs = (c .before .before .before .before .before .before .pre .0, (c .before .before .before .before .before .before .pre .1 .0, (omega arith, omega arith)))
+tree-runs-requires c κs = (c .before .before .before .before .before .pre .0, (c .before .before .before .before .before .pre .1 .0, (omega arith, omega arith)))
 
 slice-aggregate-count-off : tie.Need-slice-aggregate-count-off
 slice-aggregate-count-off c = search needs
@@ -24,10 +24,10 @@ count-off-requires : tie.Need-count-off-requires
 count-off-requires c κs = search needs
 
 add-result : tie.Need-add-result
-add-result c = omega (arith, sum-fits (c .before .before .before .before .before .before .before .before .before .before .before .before .before .before .before .pre .0 .1) (c .before .before .before .before .before .before .before .before .tree-runs .ensures (c .before .before .before .before .before .before .before .before .before .before .before .before .before .before .before .pre .0 .0) (c .before .before .before .before .before .before .before .before .before .before .before .before .before .before .before .pre .0 .1)) (c .before .count-off .ensures) (c .before .before .before .before .before .before .before .before .before .before .before .before .before .before .before .pre .1 .1))
+add-result c = omega (arith, sum-fits (c .before .before .before .before .before .before .before .before .before .before .before .before .before .before .pre .0 .1) (c .before .before .before .before .before .before .before .before .tree-runs .ensures (c .before .before .before .before .before .before .before .before .before .before .before .before .before .before .pre .0 .0) (c .before .before .before .before .before .before .before .before .before .before .before .before .before .before .pre .0 .1)) (c .before .count-off .ensures) (c .before .before .before .before .before .before .before .before .before .before .before .before .before .before .pre .1 .1))
 
 same-length : tie.Need-same-length
-same-length c = c .before .before .before .before .before .before .before .before .tree-runs .kept .1 .1 .1 .1 .1 .1 .1 .1 .1 .1 .1 .1 .0
+same-length c = c .before .before .before .before .before .before .before .before .tree-runs .kept .1 .1 .1 .1 .1 .1 .1 .1 .0
 
 returns : tie.Need-returns
 returns c = λ B held. increases-found held (c .before .before .before .before .before .before .before .before .tree-runs .ensures B held) (c .before .count-off .ensures)

@@ -1,15 +1,14 @@
--- What is planted in the first c nodes stays so in other arrays that agree there (`same-planted`), as in the arrays with the kinds cut off at c; and the reduction's root can be copied.
+-- What is planted in the first c nodes stays so in other arrays that agree there (`same-planted`); and the reduction's root can be copied.
 -- Assumes nothing.
-use mathlib.Core.Path.{_≡_, refl, sym, _∙_}
+use mathlib.Core.Path.{_≡_, sym, _∙_}
 use Prim.Native.Nat.{ℕ, _<_}
 use native.Mathlib.Omega.{arith}
-use lib.ListN.{length, take}
-use lib.Seq.{getD-take}
+use lib.ListN.{length}
 use Rattle.model.specs.Block.{Block}
 use Rattle.parts.specs.Nodes.{Nodes, Tree, tree-of}
 use Rattle.parts.specs.Rooted.{Rooted}
 use Rattle.parts.proofs.Nodes.{SameNode, grown}
-use Rattle.planting.specs.Copy.{Plot, plot, max-reduced, Readable}
+use Rattle.planting.specs.Copy.{Plot, max-reduced, Readable}
 use Rattle.planting.specs.Planted.{kind, parent, Planted}
 
 module _
@@ -49,17 +48,6 @@ module _
               p .own-gate once j k h i (sym (same j h .kind) ∙ x) (sym (same k i .kind) ∙ y) (sym (same j h .gate) ∙ z ∙ same k i .gate);
           inside = λ k h. rw (same-tree k h) (p .inside k h);
         }
-
--- the arrays with the kinds cut off at c: as many nodes as kinds
-abbrev pub cut : ℕ → Plot → Plot
-cut c A = plot (take c (A .nodes .kinds)) (A .nodes .lefts) (A .nodes .gates) (A .nodes .rights) (A .parents)
-
-pub cut-planted : {t : Tree} {c : ℕ} {A : Plot} → 0 < c → Planted t c A → Planted t c (cut c A)
-cut-planted {t} {c} {A} some p =
-    same-planted (cut c A) some
-    (λ k h. record { kind = getD-take c (A .nodes .kinds) k 0 h; left = refl; gate = refl; right = refl })
-    (λ k h. refl)
-    p
 
 -- The reduction's root can be copied, where it stands in arrays of `max-reduced` places.
 pub rooted-readable : {B : Block} {T : Nodes} {i n : ℕ} → Rooted B T i n → length (T .kinds) ≡ max-reduced → Readable T i
