@@ -41,6 +41,10 @@ right N k = getD (N .rights) k 0
 abbrev pub parent : List ℕ → ℕ → ℕ
 parent parents k = getD parents k 0
 
+-- the words of a node
+abbrev pub node-words : ℕ
+node-words = 5
+
 -- node k is one of the tree in these words, which has no more nodes than a block's tree can have
 pub record NodeIn (tree : List ℕ) (k : ℕ) : Type 0 where
   pub node : k < nodes-held tree
@@ -94,6 +98,7 @@ pub record StepsLent (n : ℕ) (counts step-widths drops inputs : List ℕ) : Ty
 abbrev pub heads-of : List ℕ → ℕ → ℕ → Head
 heads-of block = heads-in (gates-held block) (counts-of block) (widths-of block) (drops-of block) (inputs-of block)
 
+-- the words of a block hold such steps
 abbrev pub StepsHeld : List ℕ → Type 0
 StepsHeld block = StepsLent (gates-held block) (counts-of block) (widths-of block) (drops-of block) (inputs-of block)
 
@@ -104,6 +109,7 @@ pub record Plan : Type 0 where
   pub parents : List ℕ
   pub heads : ℕ → ℕ → Head
 
+-- the plan in the words of a block and of a tree
 abbrev pub plan : List ℕ → List ℕ → Plan
 plan block tree =
     record {
