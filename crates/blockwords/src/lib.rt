@@ -5,11 +5,11 @@ use model::limits::MAX_GATES;
 use model::limits::MAX_PAIRS;
 use model::limits::MAX_STEPS;
 ghost use mathlib.Core.Path.{_≡_};
-ghost use Prim.Native.Nat.{_<_};
+ghost use Prim.Native.Nat.{_+_, _≤_, _<_};
 ghost use lib.ListN.{getD};
 ghost use Rattle.model.specs.Limits.{max-gates, max-steps};
 ghost use Rattle.model.specs.Arrays.{step-place};
-ghost use Rattle.blockwords.specs.BlockWords.{gates-held, counts-of, widths-of, drops-of, inputs-of};
+ghost use Rattle.blockwords.specs.BlockWords.{drops-from, gates-held, counts-of, widths-of, drops-of, inputs-of};
 
 // Where the parts of a block begin: the number of gates; for each gate the number of its steps; the widths and the drops of steps; the input activities of gates.
 pub const GATE_COUNT: usize = 0;
@@ -42,12 +42,21 @@ pub fn step_count(block: &BlockWords, g: u32) -> u32
     block[(g as usize) + STEP_COUNTS]
 }
 
+// The number of step j of gate g among those that begin at word `from`.
+fn step_number(block: &BlockWords, from: usize, g: u32, j: u32) -> u32
+    requires { ⌜ (g < max-gates) × (j < max-steps) ⌝ }
+    requires { ⌜ from ≤ drops-from ⌝ }
+    ensures { λ r. ⌜ r ≡ getD (now (block .entry)) (step-place g j + from) 0 ⌝ }
+{
+    block[(g as usize) * MAX_STEPS + (j as usize) + from]
+}
+
 // The width of step j of gate g.
 pub fn step_width(block: &BlockWords, g: u32, j: u32) -> u32
     requires { ⌜ (g < max-gates) × (j < max-steps) ⌝ }
     ensures { λ r. ⌜ r ≡ getD (widths-of (now (block .entry))) (step-place g j) 0 ⌝ }
 {
-    block[(g as usize) * MAX_STEPS + (j as usize) + STEP_WIDTHS]
+    step_number(block, STEP_WIDTHS, g, j)
 }
 
 // The drop of step j of gate g.
@@ -55,7 +64,7 @@ pub fn step_drop(block: &BlockWords, g: u32, j: u32) -> u32
     requires { ⌜ (g < max-gates) × (j < max-steps) ⌝ }
     ensures { λ r. ⌜ r ≡ getD (drops-of (now (block .entry))) (step-place g j) 0 ⌝ }
 {
-    block[(g as usize) * MAX_STEPS + (j as usize) + STEP_DROPS]
+    step_number(block, STEP_DROPS, g, j)
 }
 
 // The input activity of gate g.

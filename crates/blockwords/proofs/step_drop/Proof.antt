@@ -1,4 +1,6 @@
+-- `blockwords::step_drop` meets its contract. Assumes nothing.
 use borrow.Author.Needs.{needs}
+use mathlib.Core.Path.{_∙_}
 use native.Mathlib.Omega.{arith}
 use Rattle.model.specs.Limits.{max-pairs}
 use Rattle.model.specs.Arrays.{step-place}
@@ -7,23 +9,13 @@ use Rattle.blockwords.specs.BlockWords.{drops-from}
 use Rattle.blockwords.proofs.step_drop.Statement.{statement}
 use Rattle.blockwords.proofs.step_drop.Tie as tie
 
-mul-result : tie.Need-mul-result
-mul-result c = search needs
-
-add-result : tie.Need-add-result
-add-result c = search needs
-
-add-result-2 : tie.Need-add-result-2
-add-result-2 c = search needs
-
-mul-result-2 : tie.Need-mul-result-2
-mul-result-2 c = search needs
-
-element-copy-out-result : tie.Need-element-copy-out-result
-element-copy-out-result c = search needs
+step-number-requires : tie.Need-step-number-requires
+step-number-requires c κs = search needs
 
 returns : tie.Need-returns
-returns c = read-on drops-from max-pairs (c .before .args .block .now) (step-place (c .before .args .g) (c .before .args .j)) (omega (arith, c .before .pre .0, c .before .pre .1))
+returns c =
+    let s = c .before .args in
+    c .step-number .ensures ∙ read-on drops-from max-pairs (s .block .now) (step-place (s .g) (s .j)) (omega (arith, c .before .pre .0, c .before .pre .1))
 
 pub step-drop-spec : {M : Type 1} → statement M
-step-drop-spec = tie.close (tie.spec mul-result add-result add-result-2 mul-result-2 element-copy-out-result returns)
+step-drop-spec = tie.close (tie.spec step-number-requires returns)
