@@ -1,4 +1,4 @@
--- A tree of parts copied into node arrays, an entry a node, with the number of each node's parent: the left part first, then the right, then the node itself. So each node has one parent, whatever the arrays copied from share.
+-- A tree of parts copied into arrays, an entry a node, with the number of each node's parent: the left part first, then the right, then the node itself. So each node has one parent, whatever the arrays copied from share.
 use mathlib.Core.Path.{_≡_}
 use mathlib.Core.Logic.{_⊎_}
 use mathlib.Core.List.{List}

@@ -1,4 +1,4 @@
--- The curve of a block whose tree stands in node arrays: it is no longer and its gains are no greater than document 01 says, and what ticks earn on the runs on which they are spent is what the increases save beyond the start.
+-- The curve of a block whose tree stands in words: it is no longer and its gains are no greater than document 01 says, and what ticks earn on the runs on which they are spent is what the increases save beyond the start.
 -- Assumes nothing.
 use mathlib.Core.Path.{_≡_, refl, sym, _∙_, ap}
 use mathlib.Core.List.{List, [], _∷_, List·Memᴰ, List·Memᴰ·head, List·Memᴰ·tail}
