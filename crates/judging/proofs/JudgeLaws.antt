@@ -30,6 +30,7 @@ use Rattle.gains.proofs.Held.{held-lent}
 use Rattle.gains.proofs.Earnings.{block-earnable}
 use Rattle.loading.proofs.Held.{delay-is, delay-most, wire-delay-most}
 use Rattle.loading.specs.HeldFile.{HeldFile}
+use Rattle.loading.proofs.HeldFile.{too-short}
 use Rattle.judging.specs.Slowed.{Lasting, Lasts}
 use Rattle.holding.proofs.HeldLaws.{block, count, the-limits, the-lent, some, the-along, inputs-are}
 
@@ -55,6 +56,10 @@ module _ {file : List ℕ} {n m arrival deadline activity : ℕ} {G : GateArrays
   widths-lent g l =
       held-lent B n (G .counts) (G .step-widths) (G .drops) held (the-limits h) (omega (arith, h .counts-long, the-lent h .gates))
       (omega (arith, h .widths-long, the-lent h .gates)) (omega (arith, h .drops-long, the-lent h .gates)) g l .widths-lent
+
+  -- fewer increases than gates
+  pub short-refused : (x : List ℕ) → length x < n → AnswersJudge file x (record { answer = refusal 10 n; memory = x })
+  short-refused x short = too-short file n m arrival deadline activity G W order x (h .well) short
 
   module _ (x : List ℕ) (long : n ≤ length x) where
     -- the list that is judged

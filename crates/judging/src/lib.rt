@@ -1,4 +1,4 @@
-// The verdict on a list of increases for a block that is in arrays: refusals 13 and 14, or the saving. For the call above.
+// The verdict on a list of increases for a block that is in arrays: refusals 10, 13 and 14, or the saving. For the call above.
 mod longest;
 
 use crate::longest::longest_with;
@@ -9,13 +9,12 @@ use model::JudgeAnswer;
 use model::Refusal;
 use model::limits::MAX_GATES;
 ghost use mathlib.Core.List.{List};
-ghost use Prim.Native.Nat.{ℕ, _≤_};
-ghost use lib.ListN.{length};
+ghost use Prim.Native.Nat.{ℕ};
 ghost use Rattle.model.specs.Answer.{AnswersJudge, judge-answer};
 ghost use Rattle.blockfile.specs.Held.{gate-arrays, wire-arrays};
 ghost use Rattle.loading.specs.HeldFile.{HeldFile};
 
-// The verdict on the first n increases for a well-formed file's block, which is in the arrays: refusals 13 and 14, or the saving.
+// The verdict on the first n increases for a well-formed file's block, which is in the arrays: refusals 10, 13 and 14, or the saving.
 // Public for `resizing` alone: it has shown that a well-formed file's block is in the arrays.
 pub fn judge_held(
     n: usize,
@@ -35,9 +34,11 @@ pub fn judge_held(
     increases: &[u32],
 ) -> JudgeAnswer
     requires { ⌜ ((file : List ℕ) × HeldFile file n m arrival deadline activity (gate-arrays (now delays) (now activities) (now counts) (now «step_widths») (now drops)) (wire-arrays (now sources) (now targets) (now «wire_delays»)) (now order)) ⌝ }
-    requires { ⌜ n ≤ length (now increases) ⌝ }
     ensures { λ r. ⌜ ((file : List ℕ) → HeldFile file n m arrival deadline activity (gate-arrays (now (delays .entry)) (now (activities .entry)) (now (counts .entry)) (now («step_widths» .entry)) (now (drops .entry))) (wire-arrays (now (sources .entry)) (now (targets .entry)) (now («wire_delays» .entry))) (now (order .entry)) → AnswersJudge file (now (increases .entry)) (record { answer = judge-answer r; memory = now (increases .entry) })) ⌝ }
 {
+    if increases.len() < n {
+        return JudgeAnswer::Refused(Refusal::Room { needed: n });
+    }
     let g = lowest_exceeding(n, counts, step_widths, increases);
     if g < n {
         return JudgeAnswer::Refused(Refusal::Widths { gate: g });

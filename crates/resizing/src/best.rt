@@ -1,12 +1,11 @@
 // The best increases of a block file.
-use answers::best_lines::best_held;
 use loading::Loaded;
 use loading::load;
 use model::BestAnswer;
-use model::Refusal;
 use model::limits::MAX_GATES;
 use model::limits::MAX_PAIRS;
 use model::limits::MAX_WIRES;
+use rooms::best::best_with_room;
 ghost use Rattle.model.specs.Answer.{AnswersBest, best-answer};
 
 // The best list to the front of `increases` with its saving, or the first refusal of 1 to 12 that fits.
@@ -43,10 +42,7 @@ pub fn best_increases(file: &[u8], increases: &mut [u32]) -> BestAnswer
             deadline,
             activity,
         } => {
-            if increases.len() < gates {
-                return BestAnswer::Refused(Refusal::Room { needed: gates });
-            }
-            best_held(
+            best_with_room(
                 gates,
                 wires,
                 arrival,

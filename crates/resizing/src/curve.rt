@@ -1,12 +1,11 @@
 // The saving curve of a block file.
-use answers::curve_lines::curve_held;
 use loading::Loaded;
 use loading::load;
 use model::CurveAnswer;
-use model::Refusal;
 use model::limits::MAX_GATES;
 use model::limits::MAX_PAIRS;
 use model::limits::MAX_WIRES;
+use rooms::curve::curve_with_room;
 ghost use Rattle.model.specs.Answer.{AnswersCurve, CurveBounds, curve-answer};
 
 // The curve's pairs to the front of `widths` and `gains`, with start and the saving at start; or the first refusal of 1 to 11 that fits.
@@ -44,13 +43,7 @@ pub fn curve(file: &[u8], widths: &mut [u32], gains: &mut [u32]) -> CurveAnswer
             deadline: _,
             activity,
         } => {
-            if widths.len() < MAX_PAIRS {
-                return CurveAnswer::Refused(Refusal::Room { needed: MAX_PAIRS });
-            }
-            if gains.len() < MAX_PAIRS {
-                return CurveAnswer::Refused(Refusal::Room { needed: MAX_PAIRS });
-            }
-            curve_held(
+            curve_with_room(
                 gates,
                 wires,
                 activity,

@@ -3,7 +3,6 @@ use judging::judge_held;
 use loading::Loaded;
 use loading::load;
 use model::JudgeAnswer;
-use model::Refusal;
 use model::limits::MAX_GATES;
 use model::limits::MAX_PAIRS;
 use model::limits::MAX_WIRES;
@@ -43,9 +42,6 @@ pub fn judge(file: &[u8], increases: &[u32]) -> JudgeAnswer
             deadline,
             activity,
         } => {
-            if increases.len() < gates {
-                return JudgeAnswer::Refused(Refusal::Room { needed: gates });
-            }
             judge_held(
                 gates,
                 wires,

@@ -1,12 +1,11 @@
 // The slacks of a block file's gates.
 use loading::Loaded;
 use loading::load;
-use model::Refusal;
 use model::SlacksAnswer;
 use model::limits::MAX_GATES;
 use model::limits::MAX_PAIRS;
 use model::limits::MAX_WIRES;
-use timing::slack::write_slacks;
+use rooms::slacks::slacks_with_room;
 ghost use Rattle.model.specs.Answer.{AnswersSlacks, slacks-answer};
 
 // The slack of each gate to the front of `out`, or the first refusal of 1 to 10 that fits.
@@ -43,22 +42,18 @@ pub fn slacks(file: &[u8], out: &mut [i32]) -> SlacksAnswer
             deadline,
             activity: _,
         } => {
-            if out.len() < gates {
-                return SlacksAnswer::Refused(Refusal::Room { needed: gates });
-            }
-            write_slacks(
+            slacks_with_room(
                 gates,
                 wires,
-                &order,
+                arrival,
+                deadline,
+                &delays,
                 &sources,
                 &targets,
                 &wire_delays,
-                &delays,
-                arrival,
-                deadline,
+                &order,
                 out,
-            );
-            SlacksAnswer::Given { gates }
+            )
         }
     }
 }

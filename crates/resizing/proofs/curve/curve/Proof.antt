@@ -1,9 +1,7 @@
--- `resizing::curve::curve` meets its contract: the refusals 1 to 9 as loading finds them, then room in both slices, then what is found of the held block. Assumes nothing.
+-- `resizing::curve::curve` meets its contract: the refusals 1 to 9 as loading finds them, then room and the curve. Assumes nothing.
 use borrow.Author.Needs.{needs}
-use Rattle.blockfile.specs.Held.{gate-arrays, wire-arrays}
 use Rattle.loading.proofs.Refused.{passed-on}
 use Rattle.loading.proofs.HeldFile.{held-file}
-use Rattle.resizing.proofs.CallLaws.{widths-short, gains-short, curve-answered}
 use Rattle.resizing.proofs.curve.curve.Statement.{statement}
 use Rattle.resizing.proofs.curve.curve.Tie as tie
 
@@ -43,44 +41,47 @@ enum-known-loaded c = search needs
 enum-known-loaded-2 : tie.Need-enum-known-loaded-2
 enum-known-loaded-2 c = search needs
 
+slice-aggregate-curve-with-room : tie.Need-slice-aggregate-curve-with-room
+slice-aggregate-curve-with-room c = search needs
+
+slice-aggregate-curve-with-room-2 : tie.Need-slice-aggregate-curve-with-room-2
+slice-aggregate-curve-with-room-2 c = search needs
+
+slice-aggregate-curve-with-room-3 : tie.Need-slice-aggregate-curve-with-room-3
+slice-aggregate-curve-with-room-3 c = search needs
+
+slice-aggregate-curve-with-room-4 : tie.Need-slice-aggregate-curve-with-room-4
+slice-aggregate-curve-with-room-4 c = search needs
+
+slice-aggregate-curve-with-room-5 : tie.Need-slice-aggregate-curve-with-room-5
+slice-aggregate-curve-with-room-5 c = search needs
+
+slice-aggregate-curve-with-room-6 : tie.Need-slice-aggregate-curve-with-room-6
+slice-aggregate-curve-with-room-6 c = search needs
+
+curve-with-room-requires : tie.Need-curve-with-room-requires
+curve-with-room-requires c κs =
+    let loads = c .before .before .before .before .before .before .before .before .before .before .before .before .before .before .before .before .before .before .before .before .before .before .before .load in
+    let told = c .before .before .before .before .before .before .before .before .before .before .before .before .loaded2 .given in
+    let file = c .before .before .before .before .before .before .before .before .before .before .before .before .before .before .before .before .before .before .before .before .before .before .before .before .before .before .before .before .before .before .before .before .before .before .before .before .args .file .now in
+    (file, told .0 .1 .1 .0, told .0 .1 .1 .1 .0, held-file file _ _ _ _ _ _ _ _ (rw (told .1) at (loads .ensures)) (loads .kept .1 .0) (loads .kept .1 .1 .0) (loads .kept .1 .1 .1 .0) (loads .kept .1 .1 .1 .1 .0) (loads .kept .1 .1 .1 .1 .1 .0) (loads .kept .1 .1 .1 .1 .1 .1 .0) (loads .kept .1 .1 .1 .1 .1 .1 .1 .0) (loads .kept .1 .1 .1 .1 .1 .1 .1 .1 .0) (loads .kept .1 .1 .1 .1 .1 .1 .1 .1 .1 .0))
+
 returns : tie.Need-returns
-returns c = (widths-short ((rw (c .before .before .loaded2 .given .1) at (c .before .before .before .before .before .before .before .before .before .before .before .before .before .load .ensures)) .0) (c .if1 .taken), tt)
-
-returns-2 : tie.Need-returns-2
-returns-2 c = (gains-short ((rw (c .before .before .before .loaded2 .given .1) at (c .before .before .before .before .before .before .before .before .before .before .before .before .before .before .load .ensures)) .0) (c .before .if1 .left) (c .if2 .taken), tt)
-
-slice-aggregate-curve-held : tie.Need-slice-aggregate-curve-held
-slice-aggregate-curve-held c = search needs
-
-slice-aggregate-curve-held-2 : tie.Need-slice-aggregate-curve-held-2
-slice-aggregate-curve-held-2 c = search needs
-
-slice-aggregate-curve-held-3 : tie.Need-slice-aggregate-curve-held-3
-slice-aggregate-curve-held-3 c = search needs
-
-slice-aggregate-curve-held-4 : tie.Need-slice-aggregate-curve-held-4
-slice-aggregate-curve-held-4 c = search needs
-
-slice-aggregate-curve-held-5 : tie.Need-slice-aggregate-curve-held-5
-slice-aggregate-curve-held-5 c = search needs
-
-slice-aggregate-curve-held-6 : tie.Need-slice-aggregate-curve-held-6
-slice-aggregate-curve-held-6 c = search needs
-
-curve-held-requires : tie.Need-curve-held-requires
-curve-held-requires c κs = ((c .before .before .before .before .before .before .before .before .before .before .before .before .before .before .before .before .before .before .before .before .before .before .before .before .before .before .before .before .before .before .before .before .before .before .before .before .before .before .args .file .now, c .before .before .before .before .before .before .before .before .before .before .before .before .before .before .loaded2 .given .0 .1 .1 .0, c .before .before .before .before .before .before .before .before .before .before .before .before .before .before .loaded2 .given .0 .1 .1 .1 .0, (held-file (c .before .before .before .before .before .before .before .before .before .before .before .before .before .before .before .before .before .before .before .before .before .before .before .before .before .before .before .before .before .before .before .before .before .before .before .before .before .before .args .file .now) (c .before .before .before .before .before .before .before .before .before .before .before .before .before .before .loaded2 .given .0 .0) (c .before .before .before .before .before .before .before .before .before .before .before .before .before .before .loaded2 .given .0 .1 .0) (c .before .before .before .before .before .before .before .before .before .before .before .before .before .before .loaded2 .given .0 .1 .1 .0) (c .before .before .before .before .before .before .before .before .before .before .before .before .before .before .loaded2 .given .0 .1 .1 .1 .0) (c .before .before .before .before .before .before .before .before .before .before .before .before .before .before .loaded2 .given .0 .1 .1 .1 .1 .0) (gate-arrays (c .before .before .before .before .before .before .before .before .before .before .before .before .before .before .before .before .before .before .before .before .before .before .before .before .before .load .last .1 .0) (c .before .before .before .before .before .before .before .before .before .before .before .before .before .before .before .before .before .before .before .before .before .before .before .before .before .load .last .1 .1 .0) (c .before .before .before .before .before .before .before .before .before .before .before .before .before .before .before .before .before .before .before .before .before .before .before .before .before .load .last .1 .1 .1 .0) (c .before .before .before .before .before .before .before .before .before .before .before .before .before .before .before .before .before .before .before .before .before .before .before .before .before .load .last .1 .1 .1 .1 .0) (c .before .before .before .before .before .before .before .before .before .before .before .before .before .before .before .before .before .before .before .before .before .before .before .before .before .load .last .1 .1 .1 .1 .1 .0)) (wire-arrays (c .before .before .before .before .before .before .before .before .before .before .before .before .before .before .before .before .before .before .before .before .before .before .before .before .before .load .last .1 .1 .1 .1 .1 .1 .0) (c .before .before .before .before .before .before .before .before .before .before .before .before .before .before .before .before .before .before .before .before .before .before .before .before .before .load .last .1 .1 .1 .1 .1 .1 .1 .0) (c .before .before .before .before .before .before .before .before .before .before .before .before .before .before .before .before .before .before .before .before .before .before .before .before .before .load .last .1 .1 .1 .1 .1 .1 .1 .1 .0)) (c .before .before .before .before .before .before .before .before .before .before .before .before .before .before .before .before .before .before .before .before .before .before .before .before .before .load .last .1 .1 .1 .1 .1 .1 .1 .1 .1 .0) (rw (c .before .before .before .before .before .before .before .before .before .before .before .before .before .before .loaded2 .given .1) at (c .before .before .before .before .before .before .before .before .before .before .before .before .before .before .before .before .before .before .before .before .before .before .before .before .before .load .ensures)) (c .before .before .before .before .before .before .before .before .before .before .before .before .before .before .before .before .before .before .before .before .before .before .before .before .before .load .kept .1 .0) (c .before .before .before .before .before .before .before .before .before .before .before .before .before .before .before .before .before .before .before .before .before .before .before .before .before .load .kept .1 .1 .0) (c .before .before .before .before .before .before .before .before .before .before .before .before .before .before .before .before .before .before .before .before .before .before .before .before .before .load .kept .1 .1 .1 .0) (c .before .before .before .before .before .before .before .before .before .before .before .before .before .before .before .before .before .before .before .before .before .before .before .before .before .load .kept .1 .1 .1 .1 .0) (c .before .before .before .before .before .before .before .before .before .before .before .before .before .before .before .before .before .before .before .before .before .before .before .before .before .load .kept .1 .1 .1 .1 .1 .0) (c .before .before .before .before .before .before .before .before .before .before .before .before .before .before .before .before .before .before .before .before .before .before .before .before .before .load .kept .1 .1 .1 .1 .1 .1 .0) (c .before .before .before .before .before .before .before .before .before .before .before .before .before .before .before .before .before .before .before .before .before .before .before .before .before .load .kept .1 .1 .1 .1 .1 .1 .1 .0) (c .before .before .before .before .before .before .before .before .before .before .before .before .before .before .before .before .before .before .before .before .before .before .before .before .before .load .kept .1 .1 .1 .1 .1 .1 .1 .1 .0) (c .before .before .before .before .before .before .before .before .before .before .before .before .before .before .before .before .before .before .before .before .before .before .before .before .before .load .kept .1 .1 .1 .1 .1 .1 .1 .1 .1 .0))), (c .before .before .before .before .before .before .before .before .before .before .before .before .if1 .left, c .before .before .before .before .before .before .before .before .before .before .before .if2 .left))
-
-returns-3 : tie.Need-returns-3
-returns-3 c = (passed-on (c .before .loaded .given .0 .0) (rw (c .before .loaded .given .1) at (c .before .before .before .before .before .before .before .before .before .before .before .before .load .ensures)), tt)
+returns c = (passed-on (c .before .loaded .given .0 .0) (rw (c .before .loaded .given .1) at (c .before .before .before .before .before .before .before .before .before .before .before .before .load .ensures)), tt)
 
 same-length : tie.Need-same-length
-same-length c = c .before .before .before .before .curve-held .kept .1 .1 .1 .1 .1 .1 .1 .1 .1 .1 .1 .1 .0
+same-length c = search needs
 
 same-length-2 : tie.Need-same-length-2
-same-length-2 c = c .before .before .before .before .curve-held .kept .1 .1 .1 .1 .1 .1 .1 .1 .1 .1 .1 .1 .1 .0
+same-length-2 c = search needs
 
-returns-4 : tie.Need-returns-4
-returns-4 c = (curve-answered ((rw (c .before .before .before .before .before .before .before .before .before .before .before .before .before .before .before .before .before .before .before .loaded2 .given .1) at (c .before .before .before .before .before .before .before .before .before .before .before .before .before .before .before .before .before .before .before .before .before .before .before .before .before .before .before .before .before .before .load .ensures)) .0) (c .before .before .before .before .before .before .before .before .before .before .before .before .before .before .before .before .before .if1 .left) (c .before .before .before .before .before .before .before .before .before .before .before .before .before .before .before .before .if2 .left) (c .before .before .before .before .curve-held .ensures .0 (c .before .before .before .before .before .before .before .before .before .before .before .before .before .before .before .before .before .before .before .before .before .before .before .before .before .before .before .before .before .before .before .before .before .before .before .before .before .before .before .before .before .before .before .args .file .now) (c .before .before .before .before .before .before .before .before .before .before .before .before .before .before .before .before .before .before .before .loaded2 .given .0 .1 .1 .0) (c .before .before .before .before .before .before .before .before .before .before .before .before .before .before .before .before .before .before .before .loaded2 .given .0 .1 .1 .1 .0) (held-file (c .before .before .before .before .before .before .before .before .before .before .before .before .before .before .before .before .before .before .before .before .before .before .before .before .before .before .before .before .before .before .before .before .before .before .before .before .before .before .before .before .before .before .before .args .file .now) (c .before .before .before .before .before .before .before .before .before .before .before .before .before .before .before .before .before .before .before .loaded2 .given .0 .0) (c .before .before .before .before .before .before .before .before .before .before .before .before .before .before .before .before .before .before .before .loaded2 .given .0 .1 .0) (c .before .before .before .before .before .before .before .before .before .before .before .before .before .before .before .before .before .before .before .loaded2 .given .0 .1 .1 .0) (c .before .before .before .before .before .before .before .before .before .before .before .before .before .before .before .before .before .before .before .loaded2 .given .0 .1 .1 .1 .0) (c .before .before .before .before .before .before .before .before .before .before .before .before .before .before .before .before .before .before .before .loaded2 .given .0 .1 .1 .1 .1 .0) (gate-arrays (c .before .before .before .before .before .before .before .before .before .before .before .before .before .before .before .before .before .before .before .before .before .before .before .before .before .before .before .before .before .before .load .last .1 .0) (c .before .before .before .before .before .before .before .before .before .before .before .before .before .before .before .before .before .before .before .before .before .before .before .before .before .before .before .before .before .before .load .last .1 .1 .0) (c .before .before .before .before .before .before .before .before .before .before .before .before .before .before .before .before .before .before .before .before .before .before .before .before .before .before .before .before .before .before .load .last .1 .1 .1 .0) (c .before .before .before .before .before .before .before .before .before .before .before .before .before .before .before .before .before .before .before .before .before .before .before .before .before .before .before .before .before .before .load .last .1 .1 .1 .1 .0) (c .before .before .before .before .before .before .before .before .before .before .before .before .before .before .before .before .before .before .before .before .before .before .before .before .before .before .before .before .before .before .load .last .1 .1 .1 .1 .1 .0)) (wire-arrays (c .before .before .before .before .before .before .before .before .before .before .before .before .before .before .before .before .before .before .before .before .before .before .before .before .before .before .before .before .before .before .load .last .1 .1 .1 .1 .1 .1 .0) (c .before .before .before .before .before .before .before .before .before .before .before .before .before .before .before .before .before .before .before .before .before .before .before .before .before .before .before .before .before .before .load .last .1 .1 .1 .1 .1 .1 .1 .0) (c .before .before .before .before .before .before .before .before .before .before .before .before .before .before .before .before .before .before .before .before .before .before .before .before .before .before .before .before .before .before .load .last .1 .1 .1 .1 .1 .1 .1 .1 .0)) (c .before .before .before .before .before .before .before .before .before .before .before .before .before .before .before .before .before .before .before .before .before .before .before .before .before .before .before .before .before .before .load .last .1 .1 .1 .1 .1 .1 .1 .1 .1 .0) (rw (c .before .before .before .before .before .before .before .before .before .before .before .before .before .before .before .before .before .before .before .loaded2 .given .1) at (c .before .before .before .before .before .before .before .before .before .before .before .before .before .before .before .before .before .before .before .before .before .before .before .before .before .before .before .before .before .before .load .ensures)) (c .before .before .before .before .before .before .before .before .before .before .before .before .before .before .before .before .before .before .before .before .before .before .before .before .before .before .before .before .before .before .load .kept .1 .0) (c .before .before .before .before .before .before .before .before .before .before .before .before .before .before .before .before .before .before .before .before .before .before .before .before .before .before .before .before .before .before .load .kept .1 .1 .0) (c .before .before .before .before .before .before .before .before .before .before .before .before .before .before .before .before .before .before .before .before .before .before .before .before .before .before .before .before .before .before .load .kept .1 .1 .1 .0) (c .before .before .before .before .before .before .before .before .before .before .before .before .before .before .before .before .before .before .before .before .before .before .before .before .before .before .before .before .before .before .load .kept .1 .1 .1 .1 .0) (c .before .before .before .before .before .before .before .before .before .before .before .before .before .before .before .before .before .before .before .before .before .before .before .before .before .before .before .before .before .before .load .kept .1 .1 .1 .1 .1 .0) (c .before .before .before .before .before .before .before .before .before .before .before .before .before .before .before .before .before .before .before .before .before .before .before .before .before .before .before .before .before .before .load .kept .1 .1 .1 .1 .1 .1 .0) (c .before .before .before .before .before .before .before .before .before .before .before .before .before .before .before .before .before .before .before .before .before .before .before .before .before .before .before .before .before .before .load .kept .1 .1 .1 .1 .1 .1 .1 .0) (c .before .before .before .before .before .before .before .before .before .before .before .before .before .before .before .before .before .before .before .before .before .before .before .before .before .before .before .before .before .before .load .kept .1 .1 .1 .1 .1 .1 .1 .1 .0) (c .before .before .before .before .before .before .before .before .before .before .before .before .before .before .before .before .before .before .before .before .before .before .before .before .before .before .before .before .before .before .load .kept .1 .1 .1 .1 .1 .1 .1 .1 .1 .0))), c .before .before .before .before .curve-held .ensures .1)
+returns-2 : tie.Need-returns-2
+returns-2 c =
+    let loads = c .before .before .before .before .before .before .before .before .before .before .before .before .before .before .before .before .before .before .before .before .before .before .before .before .before .before .before .before .load in
+    let told = c .before .before .before .before .before .before .before .before .before .before .before .before .before .before .before .before .before .loaded2 .given in
+    let file = c .before .before .before .before .before .before .before .before .before .before .before .before .before .before .before .before .before .before .before .before .before .before .before .before .before .before .before .before .before .before .before .before .before .before .before .before .before .before .before .before .before .args .file .now in
+    let found = c .before .before .before .before .curve-with-room .ensures in
+    (found .0 file (told .0 .1 .1 .0) (told .0 .1 .1 .1 .0) (held-file file _ _ _ _ _ _ _ _ (rw (told .1) at (loads .ensures)) (loads .kept .1 .0) (loads .kept .1 .1 .0) (loads .kept .1 .1 .1 .0) (loads .kept .1 .1 .1 .1 .0) (loads .kept .1 .1 .1 .1 .1 .0) (loads .kept .1 .1 .1 .1 .1 .1 .0) (loads .kept .1 .1 .1 .1 .1 .1 .1 .0) (loads .kept .1 .1 .1 .1 .1 .1 .1 .1 .0) (loads .kept .1 .1 .1 .1 .1 .1 .1 .1 .1 .0)), found .1)
 
 pub curve-spec : {M : Type 1} → statement M
-curve-spec = tie.close (tie.spec slice-aggregate-load slice-aggregate-load-2 slice-aggregate-load-3 slice-aggregate-load-4 slice-aggregate-load-5 slice-aggregate-load-6 slice-aggregate-load-7 slice-aggregate-load-8 slice-aggregate-load-9 load-requires enum-known-loaded enum-known-loaded-2 returns returns-2 slice-aggregate-curve-held slice-aggregate-curve-held-2 slice-aggregate-curve-held-3 slice-aggregate-curve-held-4 slice-aggregate-curve-held-5 slice-aggregate-curve-held-6 curve-held-requires returns-3 same-length same-length-2 returns-4)
+curve-spec = tie.close (tie.spec slice-aggregate-load slice-aggregate-load-2 slice-aggregate-load-3 slice-aggregate-load-4 slice-aggregate-load-5 slice-aggregate-load-6 slice-aggregate-load-7 slice-aggregate-load-8 slice-aggregate-load-9 load-requires enum-known-loaded enum-known-loaded-2 slice-aggregate-curve-with-room slice-aggregate-curve-with-room-2 slice-aggregate-curve-with-room-3 slice-aggregate-curve-with-room-4 slice-aggregate-curve-with-room-5 slice-aggregate-curve-with-room-6 curve-with-room-requires returns same-length same-length-2 returns-2)

@@ -1,2 +1,2 @@
 pub mod SlacksLaws
-pub mod CallLaws
+pub mod CurveLaws
