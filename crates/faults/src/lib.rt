@@ -25,7 +25,7 @@ use ranges::limits::wire_in_range;
 use ranges::seen::is_fresh;
 
 // 2 for another tag than the one due, 3 for a length that it does not have, else what follows these tests.
-pub fn tag_fault(due: Due, tag: u8, length: usize, further: u32) -> u32
+fn tag_fault(due: Due, tag: u8, length: usize, further: u32) -> u32
     ensures { λ r. ⌜ r ≡ unless (eqb tag (tag-of (kind due))) 2 (unless (length-fits (kind due) length) 3 further) ⌝ }
 {
     let due_tag = tag == tag_of(due);
@@ -40,7 +40,7 @@ pub fn tag_fault(due: Due, tag: u8, length: usize, further: u32) -> u32
 }
 
 // The fault that a field shows by its header, with the length of its body.
-pub fn shape_fault(due: Due, field: Field, length: usize) -> u32
+fn shape_fault(due: Due, field: Field, length: usize) -> u32
     ensures { λ r. ⌜ r ≡ shape-of (kind due) field length ⌝ }
 {
     match field {

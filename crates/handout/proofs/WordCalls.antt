@@ -7,10 +7,10 @@ use Prim.Native.Nat.{ℕ, _+_, _^_, _<_}
 use lib.ListN.{length, getD}
 use Rattle.blockwords.specs.BlockWords.{gates-held}
 use Rattle.planting.specs.TreeWords.{tree-nodes, tree-parents}
-use Rattle.heads.specs.Plan.{plan, heads-of, StepsHeld, NodeIn, part, kind, left, gate, right, parent}
+use Rattle.heads.specs.Plan.{heads-of, StepsHeld, NodeIn, part, kind, left, gate, right, parent}
 use Rattle.heads.specs.Stored.{GateRoom, NodeRoom, CanWalk, WalkEnds, CanRenew, NodesRenewed, node-heads, head-at}
 use Rattle.heads.specs.GateHeads.{GateAdded}
-use Rattle.handout.specs.State.{state, CanGiveOut, GaveOut}
+use Rattle.handout.specs.State.{CanGiveOut, GaveOut}
 use Rattle.heads.proofs.Reading.{node-in}
 use Rattle.handout.proofs.Handing.{wires}
 use Rattle.handout.proofs.Calls as calls

@@ -7,7 +7,6 @@ use Prim.Native.Nat.{ℕ, _≤_, _<_}
 use native.Mathlib.Decide.{ℕ-discrete}
 use native.Mathlib.Omega.{arith}
 use Rattle.parts.specs.Nodes.{Nodes}
-use Rattle.planting.specs.Copy.{max-nodes}
 use Rattle.heads.specs.Plan.{node-count, parent}
 use Rattle.heads.specs.Stored.{Stored, Made, Local, Lent, Up, top, over, Renewable, Renewed, put, head-below}
 use Rattle.heads.proofs.Written.{local-renewed, local-beside, lent-put}
@@ -66,6 +65,3 @@ module _ {N : Nodes} {parents : List ℕ} {G H : Stored} {j i : ℕ} (able : Ren
     climb-rises s l =
         let u = up-on parents i k (climbed .up) l in
         let v = up-within parents i _ (u .1) in (omega (arith, u .0), omega arith)
-
-    pub at-parent : k < max-nodes
-    at-parent = let w = within in omega (arith, able .node, able .shaped .few-nodes)

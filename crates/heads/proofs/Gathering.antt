@@ -1,13 +1,11 @@
 -- The steps gathered in the words of a block give its gates the heads that the arrays give.
 -- Assumes nothing.
-use mathlib.Core.Path.{_≡_, refl, sym, _∙_, ap}
+use mathlib.Core.Path.{_≡_}
 use mathlib.Core.Logic.{_⊎_, inl, inr}
 use mathlib.Core.List.{List}
 use Prim.Native.Nat.{ℕ, _≤_, _<_}
-use native.Mathlib.Omega.{arith}
 use borrow.Author.Tests.{lt-ltb, le-ltb}
 use Rattle.lists.proofs.Compare.{le-or-lt}
-use Rattle.optimum.specs.Head.{Head}
 use Rattle.blockwords.specs.Gathered.{Gathered}
 use Rattle.blockwords.proofs.Steps.{same-steps}
 use Rattle.heads.specs.Plan.{StepsLent, StepsHeld, heads-in, heads-of}

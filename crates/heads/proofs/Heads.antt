@@ -1,6 +1,6 @@
 -- Heads in words: what stands at an entry is a gate's or a node's head, and a head written at an entry is one gate's or one node's.
 -- Assumes nothing.
-use mathlib.Core.Path.{_≡_, refl, sym, _∙_, ap, subst}
+use mathlib.Core.Path.{_≡_, refl, sym, _∙_, ap}
 use mathlib.Core.Logic.{_⊎_, inl, inr, _≢_}
 use mathlib.Core.List.{List}
 use Prim.Native.Nat.{ℕ, _+_, _*_, _≤_, _<_}
@@ -14,7 +14,7 @@ use Rattle.optimum.specs.Head.{Head}
 use Rattle.ties.specs.Code.{of-key, key-of}
 use Rattle.ties.proofs.Keys.{key-back}
 use Rattle.words.specs.View.{view}
-use Rattle.heads.specs.Stored.{Stored, Room, GateRoom, NodeRoom, NodeWritten, GateWritten, stored, head-at, put, head-entries, entry-at, write, heads-from, if-long, gate-heads, node-heads}
+use Rattle.heads.specs.Stored.{Room, GateRoom, NodeRoom, NodeWritten, GateWritten, stored, head-at, put, head-entries, entry-at, write, heads-from, if-long, gate-heads, node-heads}
 use Rattle.words.proofs.Views.{length-view, at-view, view-beside, view-written}
 
 -- place k is there only where all words are

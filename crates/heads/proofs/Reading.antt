@@ -6,30 +6,23 @@ use Prim.Native.Nat.{ℕ, _+_, _*_, _≤_, _<_}
 use native.Mathlib.Omega.{arith}
 use lib.ListN.{getD}
 use Rattle.planting.specs.Copy.{max-nodes}
-use Rattle.words.specs.View.{view}
+use Rattle.planting.proofs.HeldNodes.{kinds-held}
 use Rattle.planting.specs.TreeWords.{nodes-held, tree-nodes, tree-parents}
 use Rattle.heads.specs.Plan.{NodeIn, node-count, kind, left, gate, right, parent}
-use Rattle.words.proofs.Views.{length-view, at-view}
+use Rattle.words.proofs.Views.{at-view}
 
 module _ (tree : List ℕ) where
-  pub count-is : node-count (tree-nodes tree) ≡ nodes-held tree
-  unfolding tree-nodes
-  count-is = length-view 1 5 (nodes-held tree) tree
-
   pub node-in : (k : ℕ) → k < node-count (tree-nodes tree) → node-count (tree-nodes tree) ≤ max-nodes → NodeIn tree k
-  node-in k l f = record { node = rw count-is at l; few = rw count-is at f }
+  node-in k l f = record { node = rw (kinds-held tree) at l; few = rw (kinds-held tree) at f }
 
   -- below the count there are nodes, and no others
   pub node-of-all : {count i : ℕ} → count ≡ nodes-held tree → i < count → i < node-count (tree-nodes tree)
-  node-of-all e l = rw (count-is, ← e) l
+  node-of-all e l = rw (kinds-held tree, ← e) l
 
   pub all-nodes : {count i : ℕ} → count ≡ nodes-held tree → i ≤ count → count ≤ i → i ≡ node-count (tree-nodes tree)
-  all-nodes e l m = rw (count-is, ← e) (omega arith)
+  all-nodes e l m = rw (kinds-held tree, ← e) (omega arith)
 
 module _ {tree : List ℕ} {k : ℕ} (n : NodeIn tree k) where
-  pub in-nodes : k < max-nodes
-  in-nodes = omega (arith, n .node, n .few)
-
   held : k < nodes-held tree
   held = n .node
 

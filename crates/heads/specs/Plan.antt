@@ -41,10 +41,6 @@ right N k = getD (N .rights) k 0
 abbrev pub parent : List ℕ → ℕ → ℕ
 parent parents k = getD parents k 0
 
--- the words of a node
-abbrev pub node-words : ℕ
-node-words = 5
-
 -- node k is one of the tree in these words, which has no more nodes than a block's tree can have
 pub record NodeIn (tree : List ℕ) (k : ℕ) : Type 0 where
   pub node : k < nodes-held tree

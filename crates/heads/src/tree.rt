@@ -10,8 +10,8 @@ use planting::tree_words::TreeWords;
 ghost use mathlib.Core.Path.{_≡_};
 ghost use Prim.Native.Nat.{_+_, _*_, _≤_};
 ghost use lib.ListN.{getD};
-ghost use Rattle.planting.specs.TreeWords.{nodes-held, tree-nodes, tree-parents};
-ghost use Rattle.heads.specs.Plan.{node-words, kind, left, gate, right, parent, NodeIn};
+ghost use Rattle.planting.specs.TreeWords.{node-words, nodes-held, tree-nodes, tree-parents};
+ghost use Rattle.heads.specs.Plan.{kind, left, gate, right, parent, NodeIn};
 
 // The number of nodes.
 pub fn node_count(tree: &TreeWords) -> usize

@@ -9,38 +9,22 @@ use lib.ListN.{length, getD, List·getD-eq-default}
 use Rattle.lists.proofs.Compare.{le-or-lt}
 use Rattle.words.specs.View.{view}
 use Rattle.words.proofs.Views.{length-view, at-view}
-use Rattle.parts.specs.Nodes.{Tree, tree-of}
-use Rattle.parts.proofs.Nodes.{SameNode, grown}
+use Rattle.parts.specs.Nodes.{Tree}
+use Rattle.parts.proofs.Nodes.{SameNode}
 use Rattle.planting.specs.Copy.{Plot}
 use Rattle.planting.specs.Planted.{parent, Planted}
 use Rattle.planting.specs.TreeWords.{room, plot-of, nodes-held, tree-nodes, tree-parents}
 use Rattle.planting.proofs.Agreeing.{same-planted}
-use Rattle.planting.proofs.Writing.{Fits, fits-in}
 
 -- the nodes that the tree has, with their parents
 abbrev pub held-plot : List ℕ → Plot
 held-plot tree = record { nodes = tree-nodes tree; parents = tree-parents tree }
 
 module _ (tree : List ℕ) where
+  -- as many nodes as the first word says
   pub kinds-held : length (tree-nodes tree .kinds) ≡ nodes-held tree
   unfolding tree-nodes
   kinds-held = length-view 1 5 (nodes-held tree) tree
-
-  pub lefts-held : length (tree-nodes tree .lefts) ≡ nodes-held tree
-  unfolding tree-nodes
-  lefts-held = length-view 2 5 (nodes-held tree) tree
-
-  pub gates-held : length (tree-nodes tree .gates) ≡ nodes-held tree
-  unfolding tree-nodes
-  gates-held = length-view 3 5 (nodes-held tree) tree
-
-  pub rights-held : length (tree-nodes tree .rights) ≡ nodes-held tree
-  unfolding tree-nodes
-  rights-held = length-view 4 5 (nodes-held tree) tree
-
-  pub parents-held : length (tree-parents tree) ≡ nodes-held tree
-  unfolding tree-parents
-  parents-held = length-view 5 5 (nodes-held tree) tree
 
 module _ (tree : List ℕ) {t : Tree} {c : ℕ} (some : 0 < c) (p : Planted t c (plot-of tree)) where
   -- its top's parent has a number, so it has room
@@ -54,23 +38,17 @@ module _ (tree : List ℕ) {t : Tree} {c : ℕ} (some : 0 < c) (p : Planted t c 
           absurd (omega (arith, p .top-parent, none))
       go (inr l) = omega arith
 
-  pub planted-fits : Fits tree c
-  planted-fits = fits-in tree c some planted-room
-
   module _ (held : nodes-held tree ≡ c) where
     same : (i k : ℕ) → k < c → getD (view i 5 (nodes-held tree) tree) k 0 ≡ getD (view i 5 (room tree) tree) k 0
     same i k l = at-view i 5 (nodes-held tree) tree k (omega arith) ∙ sym (at-view i 5 (room tree) tree k (omega (arith, planted-room)))
 
-    pub held-node : (k : ℕ) → k < c → SameNode (plot-of tree .nodes) (tree-nodes tree) k
+    held-node : (k : ℕ) → k < c → SameNode (plot-of tree .nodes) (tree-nodes tree) k
     unfolding plot-of tree-nodes
     held-node k l = record { kind = same 1 k l; left = same 2 k l; gate = same 3 k l; right = same 4 k l }
 
-    pub held-parent : (k : ℕ) → k < c → parent (held-plot tree) k ≡ parent (plot-of tree) k
+    held-parent : (k : ℕ) → k < c → parent (held-plot tree) k ≡ parent (plot-of tree) k
     unfolding plot-of tree-parents
     held-parent = same 5
-
-    pub held-tree : (k : ℕ) → k < c → tree-of (tree-nodes tree) k ≡ tree-of (plot-of tree .nodes) k
-    held-tree = grown (plot-of tree .nodes) (tree-nodes tree) c held-node
 
     pub held-planted : Planted t c (held-plot tree)
     held-planted = same-planted (held-plot tree) some held-node held-parent p

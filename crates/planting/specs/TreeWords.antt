@@ -8,9 +8,13 @@ use Rattle.words.specs.View.{view}
 use Rattle.parts.specs.Nodes.{Nodes}
 use Rattle.planting.specs.Copy.{Plot, nodes-in, plot, max-nodes}
 
+-- the words of a node
+abbrev pub node-words : ℕ
+node-words = 5
+
 -- the words of a tree
 abbrev pub tree-words : ℕ
-tree-words = 1 + max-nodes * 5
+tree-words = 1 + max-nodes * node-words
 
 -- room for all nodes, where the words are all there; otherwise none
 unfoldable pub room : List ℕ → ℕ

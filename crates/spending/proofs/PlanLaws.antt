@@ -1,6 +1,6 @@
 -- The plan of the words in which a block's steps are gathered is the plan of the arrays: what the functions of sizing ask over the words, and what they leave.
 -- Assumes nothing.
-use mathlib.Core.Path.{_≡_, refl, sym, _∙_, subst}
+use mathlib.Core.Path.{_≡_, refl, sym, subst}
 use mathlib.Core.List.{List}
 use Prim.Native.Nat.{ℕ, _-_, _*_, _≤_}
 use lib.ListN.{length, getD}
@@ -11,7 +11,7 @@ use Rattle.planting.specs.TreeWords.{nodes-held, tree-nodes, tree-parents}
 use Rattle.blockwords.specs.Gathered.{Gathered}
 use Rattle.heads.specs.Plan.{Plan, plan}
 use Rattle.heads.specs.Stored.{head-entries}
-use Rattle.heads.proofs.Reading.{count-is}
+use Rattle.planting.proofs.HeldNodes.{kinds-held}
 use Rattle.heads.proofs.Gathering.{heads-gathered}
 use Rattle.handout.specs.State.{State, state}
 use Rattle.sizing.specs.Raise.{root, delays-in, Raised, Sizable}
@@ -28,7 +28,7 @@ module _ {B : Block} {n : ℕ} (tree : List ℕ) {counts step-widths drops input
   plan-is = λ t. record { gate-count = x .gates t; nodes = tree-nodes tree; parents = tree-parents tree; heads = heads-gathered x t }
 
   last-node : {c : ℕ} → c ≡ nodes-held tree → root (tree-plan n arrays) ≡ c - 1
-  last-node e = rw (e, count-is tree) refl
+  last-node e = rw (e, kinds-held tree) refl
 
   pub can-start : {list : List ℕ} (words : List ℕ) → length list ≡ n → head-entries * 2 ≤ length words → Sizable (plan block tree) (state list words)
   can-start {list} words e l = subst (λ (P : Plan). Sizable P (state list words)) (sym plan-is) (sizable h words e l)

@@ -1,6 +1,5 @@
 -- The proof of the cycle of calls {parallel_give_out, series_give_out}. The measure is twice the wires of the part, one more for `series_give_out`, which may hand on the whole part; `parallel_give_out` hands on to parts of fewer wires.
 -- Assumes nothing.
-use borrow.Author.Needs.{needs}
 use mathlib.Core.Path.{_∙_}
 use Rattle.planting.specs.TreeWords.{tree-nodes}
 use Rattle.heads.specs.Plan.{part}

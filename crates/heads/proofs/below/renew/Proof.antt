@@ -1,5 +1,4 @@
 -- `heads::below::renew` meets its contract. Assumes nothing.
-use borrow.Author.Needs.{needs}
 use Rattle.heads.proofs.NodeCalls.{own-room, head-stored}
 use Rattle.heads.proofs.below.renew.Statement.{statement}
 use Rattle.heads.proofs.below.renew.Tie as tie

@@ -1,5 +1,4 @@
 -- `heads::store::gate_entry` meets its contract. Assumes nothing.
-use borrow.Author.Needs.{needs}
 use Rattle.heads.proofs.Heads.{gate-entry, gate-read}
 use Rattle.heads.proofs.store.gate_entry.Statement.{statement}
 use Rattle.heads.proofs.store.gate_entry.Tie as tie

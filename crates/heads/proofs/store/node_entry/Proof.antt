@@ -1,5 +1,4 @@
 -- `heads::store::node_entry` meets its contract. Assumes nothing.
-use borrow.Author.Needs.{needs}
 use native.Mathlib.Omega.{arith}
 use Rattle.heads.proofs.Heads.{node-entry, node-read}
 use Rattle.heads.proofs.store.node_entry.Statement.{statement}

@@ -1,5 +1,4 @@
 -- `heads::store::write_gate` meets its contract. Assumes nothing.
-use borrow.Author.Needs.{needs}
 use Rattle.heads.proofs.Heads.{gate-entry, gate-stored}
 use Rattle.heads.proofs.store.write_gate.Statement.{statement}
 use Rattle.heads.proofs.store.write_gate.Tie as tie

@@ -1,5 +1,4 @@
 -- `heads::store::write_node` meets its contract. Assumes nothing.
-use borrow.Author.Needs.{needs}
 use native.Mathlib.Omega.{arith}
 use Rattle.heads.proofs.Heads.{node-entry, node-stored}
 use Rattle.heads.proofs.store.write_node.Statement.{statement}

@@ -1,5 +1,4 @@
 -- `heads::way::descend` meets its contract. Assumes nothing.
-use borrow.Author.Needs.{needs}
 use native.Mathlib.Omega.{arith}
 use Rattle.planting.specs.TreeWords.{tree-nodes}
 use Rattle.heads.specs.Stored.{gate-heads, node-heads}
