@@ -23,7 +23,8 @@ extern "C" {
     8  place: lowest gate on a loop
     9  place: lowest gate with a wire where it must have none, or none where it must have one
    10  place: 4n            increases_len is below 4n
-   11  place: 0             the block is not series-parallel
+   11  place: lowest gate left, other than 0 and n - 1, when gates with one wire in and one wire out are taken away,
+              joining the two wires, and doubled wires merged, until neither applies; the block is not series-parallel
    12  place: 0             the block is late: even without increases a path misses the deadline */
 typedef struct {
     uint32_t number;

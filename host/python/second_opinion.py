@@ -1,19 +1,23 @@
-"""A second reader of document 01, in another language: holds the stored cases to it.
+"""A second reader of document 01, and of K1 in document 02, in another language: holds the stored cases to them.
 
 second_opinion.py DIR reads DIR/stdin and DIR/stdout as host/CASES.md describes them. Which lines there are, refusals, slacks
-and judging are checked for every case; the best list and the curve of small blocks by trying everything. Of a larger block's
-curve are checked start, count, widths, falling gains, its length and what all of it earns, which no search is needed for; of
-its best list that it is in time, saves what is stated and what the curve says, and slows no gate that gains nothing.
-At the end mistakes are put into the lines of some larger blocks; each must be noticed.
+and judging are checked for every case, the place of 11 by taking gates away and merging wires in several orders; the best list
+and the curve of small blocks by trying everything. Of a larger block's curve are checked start, count, widths, falling gains,
+its length and what all of it earns, which no search is needed for; of its best list that it is in time, saves what is stated
+and what the curve says, and slows no gate that gains nothing.
+At the end mistakes are put into the lines of some larger blocks, given an answer or refused with 11; each must be noticed.
 """
 
 import itertools
 import sys
+from collections import Counter
 from functools import lru_cache
 from pathlib import Path
+from random import Random
 
 MOST_LISTS = 2_000
 MOST_WIRES = 8
+ORDERS = 3
 BLOCKS_MISTAKEN = 10
 MOST_PAIRS = 512
 LARGEST_GAIN = 63 * 32_768 * 1_000
@@ -213,6 +217,44 @@ class Block:
             yield increases, self.longest(increases), self.saving(increases)
 
 
+def reduce_once(wires, left, random):
+    """Takes away a gate with one wire in and one wire out, joining the two wires, or merges two wires of a doubled one, chosen
+    at random among all that apply. Whether any did. How often each wire stands is in wires, the gates left are in left."""
+    into, out = Counter(), Counter()
+    for (a, b), times in wires.items():
+        into[b] += times
+        out[a] += times
+    takings = [g for g in sorted(left) if into[g] == out[g] == 1]
+    mergings = [wire for wire, times in wires.items() if times > 1]
+    if not takings + mergings:
+        return False
+    chosen = random.choice(takings + mergings)
+    if chosen in mergings:
+        wires[chosen] -= 1
+        return True
+    ((a, _),) = [wire for wire in wires if wire[1] == chosen]
+    ((_, b),) = [wire for wire in wires if wire[0] == chosen]
+    del wires[a, chosen], wires[chosen, b]
+    wires[a, b] += 1
+    left.remove(chosen)
+    return True
+
+
+@lru_cache(maxsize=None)
+def lowest_left(n, wires):
+    """The place of 11 (document 02, K1), or None where no gate is left but the first and the last. Several orders of taking
+    gates away and merging wires must leave the same gates."""
+    ends = set()
+    for seed in range(ORDERS):
+        counted, left, random = Counter(wires), set(range(n)), Random(seed)
+        while reduce_once(counted, left, random):
+            pass
+        ends.add(frozenset(left))
+    if len(ends) != 1:
+        raise Wrong("the gates left depend on the order: %s" % (wires,))
+    return min(ends.pop() - {0, n - 1}, default=None)
+
+
 def answer(call):
     try:
         return " ".join(str(value) for value in call())
@@ -240,11 +282,13 @@ def best_and_curve(block):
 
 def settled(block):
     """Best list and curve as words; None for an answer that is given and needs more than a few lists to find."""
-    reduces = block.reduces()
-    if block.is_small() and block.series_parallel() != reduces:
+    place = lowest_left(block.n, tuple(block.wires))
+    if (place is None) != block.reduces():
+        raise Wrong("merging wires one at a time and at once disagree: %s" % block.wires)
+    if block.is_small() and (place is None) != block.series_parallel():
         raise Wrong("splitting the wires and taking gates away disagree: %s" % block.wires)
-    if not reduces:
-        return "refused 11 0", "refused 11 0"
+    if place is not None:
+        return ("refused 11 %d" % place,) * 2
     if block.is_small():
         return best_and_curve(block)
     return "refused 12 0" if block.spare() < 0 else None, None
@@ -332,6 +376,9 @@ class Case:
             counted = counted_off(self.numbers("curve", 3), self.block.spare())
             self.hold(counted == saving, "best", "the curve says %d" % counted)
 
+    def got_11(self):
+        return all(self.lines[name].startswith("refused 11 ") for name in ("curve", "best"))
+
     def has_to_choose(self):
         """Whether curve and best list are given, and spare lies within a curve of two pairs or more."""
         if "refused" in self.lines["curve"] + self.lines["best"]:
@@ -381,8 +428,8 @@ def wrong_curves(start, at_start, count, *pairs):
     yield start, at_start, 0
 
 
-def with_a_mistake(lines):
-    """The lines of a case that has to choose, each time with one mistake."""
+def wrong_lines(lines):
+    """The lines of a case, each time with one mistake."""
     for at, line in enumerate(lines):
         words = line.split(" ")
         for wrong in wrong_numbers(words):
@@ -390,17 +437,28 @@ def with_a_mistake(lines):
         yield lines[:at] + [line.replace("kept", "changed") if "kept" in line else line + " "] + lines[at + 1 :]
         yield lines[:at] + lines[at + 1 :]
         yield lines[: at + 1] + lines[at:]
+
+
+def wrong_answers(lines):
+    """The lines of a case that has to choose, each time with one mistake in the curve or the best list."""
     curve, best = lines[2].split(" ")[1:-1], lines[3].split(" ")[1:-1]
-    for wrong in (*wrong_curves(*map(int, curve)), ("refused", 11, 0)):
+    for wrong in (*wrong_curves(*map(int, curve)), ("refused", 11, 1)):
         yield lines[:2] + ["curve %s kept" % " ".join(map(str, wrong))] + lines[3:]
     for wrong in (best[:-1], best + ["0"], ["refused", "12", "0"]):
         yield lines[:3] + ["best %s kept" % " ".join(wrong)] + lines[4:]
 
 
-def mistakes_noticed(count, record, lines):
+def wrong_places(lines):
+    """The lines of a case that got 11, each time with one place 0."""
+    yield lines[:2] + ["curve refused 11 0 kept"] + lines[3:]
+    yield lines[:3] + ["best refused 11 0 kept"] + lines[4:]
+
+
+def mistakes_noticed(stored, mistakes):
     """How many mistakes were put into a case. Each must be noticed."""
+    count, record, lines = stored
     noticed = 0
-    for wrong in with_a_mistake(lines):
+    for wrong in itertools.chain(wrong_lines(lines), mistakes(lines)):
         try:
             Case(count, record, wrong).check()
         except Wrong:
@@ -426,19 +484,23 @@ def stored_cases(data, text):
 
 
 def check_all(data, text):
-    """Holds every record to the lines printed for it; then puts mistakes into the last of the larger ones."""
+    """Holds every record to the lines printed for it; then puts mistakes into the last of the larger ones, both of those that
+    have to choose and of those that got 11."""
     count = tried = 0
-    larger = []
+    choosing, elevens = [], []
     for stored in stored_cases(data, text):
         case = Case(*stored)
         count += 1
         if case.check():
             tried += 1
+        elif case.got_11():
+            elevens.append(stored)
         elif case.has_to_choose():
-            larger.append(stored)
-    if len(larger) < BLOCKS_MISTAKEN:
+            choosing.append(stored)
+    if min(len(choosing), len(elevens)) < BLOCKS_MISTAKEN:
         raise Wrong("there are too few larger blocks to put mistakes into")
-    noticed = sum(mistakes_noticed(*stored) for stored in larger[-BLOCKS_MISTAKEN:])
+    noticed = sum(mistakes_noticed(stored, wrong_answers) for stored in choosing[-BLOCKS_MISTAKEN:])
+    noticed += sum(mistakes_noticed(stored, wrong_places) for stored in elevens[-BLOCKS_MISTAKEN:])
     return "%d cases, %d of them by trying every list; %d mistakes put in were noticed" % (count, tried, noticed)
 
 

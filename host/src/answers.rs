@@ -1,6 +1,7 @@
 //! What each call answers: its refusals in the order of document 01's table, then its values.
 
 use crate::block::{decode, refuse, Block, Refusal};
+use crate::random::Random;
 use crate::search::{Best, Curve};
 use crate::{exact, network, parts, timing};
 
@@ -23,15 +24,21 @@ pub fn slacks(file: &[u8], lent: usize) -> Result<Vec<i64>, Refusal> {
     Ok(timing::slacks(&block))
 }
 
+/// Refusal 11, its place the lowest gate left other than 0 and n - 1 (document 02, K1).
+fn check_parts(block: &Block) -> Result<(), Refusal> {
+    if parts::reduces(block) {
+        return Ok(());
+    }
+    refuse(11, parts::lowest_left(block, &mut Random::from_seed(11)).expect("a gate between the first and the last"))
+}
+
 /// The curve, its pairs to slices of so many elements.
 pub fn curve(file: &[u8], lent_widths: usize, lent_gains: usize) -> Result<Curve, Refusal> {
     let block = well_formed(file)?;
     if lent_widths < MAX_PAIRS || lent_gains < MAX_PAIRS {
         return refuse(10, MAX_PAIRS);
     }
-    if !parts::reduces(&block) {
-        return refuse(11, 0);
-    }
+    check_parts(&block)?;
     Ok(exact::curve(&block))
 }
 
@@ -40,9 +47,7 @@ fn best_of(block: &Block, lent: usize, needed: usize) -> Result<Best, Refusal> {
     if lent < needed {
         return refuse(10, needed);
     }
-    if !parts::reduces(block) {
-        return refuse(11, 0);
-    }
+    check_parts(block)?;
     match exact::best(block) {
         Some(best) => Ok(best),
         None => refuse(12, 0),

@@ -1,4 +1,5 @@
-//! Every refusal that a file can get, at its boundaries: each file with the answer of the best increases, by hand.
+//! Every refusal that a file can get, at its boundaries, and 11 with its place: each file with the answer of the best
+//! increases, by hand.
 
 use crate::block::{encode, Block, Gate, Step, Wire};
 use crate::generate::{largest_gain, most_pairs, most_wires};
@@ -175,15 +176,20 @@ fn drops_and_wires() -> Vec<Boundary> {
         refused("a wire that stood before", and(d(), &[3, 0, 2, 0, 1]), 6, 75),
         refused("a wire that stood just before", with(63, &[0, 1]), 6, 60),
         refused("a wire and its opposite", and(d(), &[3, 0, 2, 1, 0]), 8, 0),
-        refused("256 wires", full.clone(), 11, 0),
+        // no gate has one wire in and one wire out, so all are left
+        refused("256 wires", full.clone(), 11, 1),
         refused("a 257th wire", and(full.clone(), &[3, 0, 2, 0, 63]), 7, end),
         refused("a single byte behind 256 wires", and(full.clone(), &[0]), 7, end),
         refused("a wire that stood before, behind 256 wires", and(full, &[3, 0, 2, 0, 1]), 7, end),
     ]
 }
 
+/// A bridge from gate a to gate b, in which a wire leads from gate c across to gate d.
+fn bridge(a: usize, c: usize, d: usize, b: usize) -> [(usize, usize); 5] {
+    [(a, c), (a, d), (c, d), (c, b), (d, b)]
+}
+
 fn networks() -> Vec<Boundary> {
-    let bridge = [(0, 1), (0, 2), (1, 2), (1, 3), (2, 3)];
     let late = |mut block: Block| {
         block.deadline = 1;
         encode(&block)
@@ -203,8 +209,8 @@ fn networks() -> Vec<Boundary> {
         refused("gate n - 1 without a wire", wired(3, &[(0, 1)]), 9, 1),
         accepted("a chain of two", wired(2, &[(0, 1)])),
         accepted("a wire beside a chain", wired(3, &[(0, 1), (1, 2), (0, 2)])),
-        refused("the bridge", wired(4, &bridge), 11, 0),
-        refused("the bridge, late", late(block(vec![gate(&[]); 4], &bridge)), 11, 0),
+        refused("the bridge", wired(4, &bridge(0, 1, 2, 3)), 11, 1),
+        refused("the bridge, late", late(block(vec![gate(&[]); 4], &bridge(0, 1, 2, 3))), 11, 1),
         accepted("spare 0", encode(&diamond(7))),
         refused("spare -1", encode(&diamond(6)), 12, 0),
         accepted("spare for every tick", encode(&paper_chain(26))),
@@ -216,11 +222,60 @@ fn networks() -> Vec<Boundary> {
     ]
 }
 
+/// Plain gates with the wires of all these parts, and the lowest gate left of them.
+fn left(name: &'static str, gates: usize, parts: &[&[(usize, usize)]], lowest: u32) -> Boundary {
+    refused(name, wired(gates, &parts.concat()), 11, lowest)
+}
+
+/// Bridges, and gates around them that are taken away (document 02, K1); the comments say which gates these are.
+fn bridges() -> Vec<Boundary> {
+    let on_every_wire = [(0, 1), (1, 6), (0, 2), (2, 7), (6, 3), (3, 7), (6, 4), (4, 8), (7, 5), (5, 8)];
+    let diamond = [(0, 2), (0, 3), (2, 1), (3, 1), (1, 4)];
+    let branches = [(0, 1), (1, 2), (2, 7), (0, 3), (6, 7)];
+    let gates_and_wire = [(0, 1), (1, 7), (0, 2), (2, 7), (0, 7)];
+    let two_bridges = [bridge(0, 5, 4, 7), bridge(0, 6, 3, 7)].concat();
+    vec![
+        // none; 2 comes first along the wires
+        left("a bridge with a wire across to a lower gate", 4, &[&bridge(0, 2, 1, 3)], 1),
+        // 1 to 5
+        left("a bridge with a gate on every wire", 9, &[&on_every_wire], 6),
+        // 1
+        left("a bridge behind a chain", 6, &[&[(0, 1), (1, 2)], &bridge(2, 3, 4, 5)], 2),
+        // 1, 2 and 3
+        left("a bridge before a chain", 8, &[&bridge(0, 4, 5, 6), &[(6, 1), (1, 2), (2, 3), (3, 7)]], 4),
+        // 2 and 3; then 1, when its two wires in are merged
+        left("a bridge behind a diamond", 8, &[&diamond, &bridge(4, 5, 6, 7)], 4),
+        // 6 and 1; of those left 2 comes last along the wires
+        left("gates numbered against the wires", 8, &[&[(0, 6), (6, 5)], &bridge(5, 4, 3, 2), &[(2, 1), (1, 7)]], 2),
+        // 1 and 2
+        left("a bridge inside one branch of a diamond", 8, &[&branches, &bridge(3, 4, 5, 6)], 3),
+        // none
+        left("two bridges side by side", 6, &[&bridge(0, 4, 3, 5), &bridge(0, 2, 1, 5)], 1),
+        // 1 and 2
+        left("two gates and a wire beside two bridges", 8, &[&gates_and_wire, &two_bridges], 3),
+        // none
+        left("two bridges one after the other", 7, &[&bridge(0, 5, 4, 3), &bridge(3, 2, 1, 6)], 1),
+    ]
+}
+
+/// Networks of 64 gates of which only a bridge of the highest is left.
+fn high_bridges() -> Vec<Boundary> {
+    let side_by_side: Vec<(usize, usize)> = (1..60).flat_map(|g| [(0, g), (g, 60)]).collect();
+    let ladder: Vec<(usize, usize)> = (0..60).flat_map(|g| [(g, g + 1), (g, 63)]).chain([(60, 63)]).collect();
+    vec![
+        left("59 gates side by side before a bridge", 64, &[&side_by_side, &bridge(60, 61, 62, 63)], 60),
+        // 60 goes, then 59 and so on down to 1, each when its wires out are merged
+        left("a ladder of 60 gates beside a bridge", 64, &[&ladder, &bridge(0, 61, 62, 63)], 61),
+    ]
+}
+
 pub fn all() -> Vec<Boundary> {
     let mut all = short_fields();
     all.extend(tags_and_lengths());
     all.extend(ranges());
     all.extend(drops_and_wires());
     all.extend(networks());
+    all.extend(bridges());
+    all.extend(high_bridges());
     all
 }

@@ -2,7 +2,7 @@
 
 use crate::answers::{self, MAX_PAIRS};
 use crate::block::{encode, Block, Refusal, MAX_GATES};
-use crate::generate::{self, any_block, has_ties, Values, Wires, ALL_VALUES};
+use crate::generate::{self, any_block, bridged_block, has_ties, Values, Wires, ALL_VALUES};
 use crate::random::Random;
 use crate::{boundaries, damage, exact, parts, search, timing, worked};
 use std::fmt::{Display, Write};
@@ -170,6 +170,7 @@ fn searched_block(random: &mut Random, round: usize) -> Block {
 pub fn all() -> Vec<Case> {
     let random = &mut Random::from_seed(2_023);
     let searched = &mut Random::from_seed(8_012);
+    let bridged = &mut Random::from_seed(464);
     let mut cases: Vec<Case> = Vec::new();
     cases.extend(worked::all().into_iter().enumerate().map(|(i, w)| Case::of(w.file, i)));
     cases.extend(boundaries::all().into_iter().enumerate().map(|(i, b)| Case::of(b.file, i)));
@@ -178,6 +179,7 @@ pub fn all() -> Vec<Case> {
     cases.extend(small_blocks(random));
     cases.extend((0..300).map(|round| Case::of(encode(&large_block(random, round)), round)));
     cases.extend((0..40).map(|round| Case::of(encode(&searched_block(searched, round)), round)));
+    cases.extend((0..40).map(|round| Case::of(encode(&bridged_block(bridged, 64)), round)));
     cases
 }
 
@@ -190,6 +192,12 @@ pub fn written(cases: &[Case]) -> (Vec<u8>, String) {
         output.push_str(&case.printed(number));
     }
     (input, output)
+}
+
+/// The places of 11 that the best increases give, as printed.
+pub fn places_of_11(output: &str) -> Vec<u32> {
+    let place = |line: &str| line.strip_prefix("best refused 11 ")?.strip_suffix(" kept")?.parse().ok();
+    output.lines().filter_map(place).collect()
 }
 
 /// Holds the answers of small blocks to the exhaustive search; returns for how many blocks it did.

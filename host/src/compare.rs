@@ -2,9 +2,10 @@
 
 use crate::answers::layout_call;
 use crate::block::encode;
-use crate::generate::any_block;
+use crate::generate::compared_block;
 use crate::random::Random;
 use crate::{boundaries, damage, text, worked};
+use std::collections::HashSet;
 
 /// What the call returns: number 0 with the gate count and the saving, or a refusal with its place and saving 0.
 #[derive(Clone, Copy, Debug, PartialEq, Eq)]
@@ -56,7 +57,7 @@ fn lengths(file: &[u8], random: &mut Random) -> [usize; 5] {
 /// A block file, every third one damaged.
 fn any_file(random: &mut Random) -> Vec<u8> {
     let most_gates = random.pick(&[4, 8, 8, 16, 64]);
-    let file = encode(&any_block(random, most_gates));
+    let file = encode(&compared_block(random, most_gates));
     if random.chance(1, 3) {
         damage::damaged(random, &file)
     } else {
@@ -64,27 +65,43 @@ fn any_file(random: &mut Random) -> Vec<u8> {
     }
 }
 
-/// How many files were compared, and how often each number came back.
+/// How many files were compared, how often each number came back, and the places of 11 among the random files.
 pub struct Compared {
     pub files: usize,
     pub numbers: [usize; 13],
+    pub places: Vec<u32>,
 }
 
-/// Compares so many files: boundaries and worked cases, then random ones; the first difference ends it, with the file.
+/// How many files got 11, and at how many different places, in words.
+pub fn elevens(places: &[u32]) -> String {
+    let different: HashSet<&u32> = places.iter().collect();
+    format!("{} got 11, at {} different places", places.len(), different.len())
+}
+
+/// Compares so many files: boundaries and worked cases, then random ones; the first difference ends it, with the file. It
+/// fails too if no random file got 11.
 pub fn compare(call: Call, files: usize, seed: u64) -> Result<Compared, String> {
     let random = &mut Random::from_seed(seed);
     let fixed = worked::all().into_iter().map(|w| w.file).chain(boundaries::all().into_iter().map(|b| b.file));
     let mut waiting: Vec<Vec<u8>> = fixed.collect();
-    let mut compared = Compared { files: 0, numbers: [0; 13] };
+    let mut compared = Compared { files: 0, numbers: [0; 13], places: Vec::new() };
     while compared.files < files {
+        let is_random = waiting.is_empty();
         let file = waiting.pop().unwrap_or_else(|| any_file(random));
         for lent in lengths(&file, random) {
             if let Some(difference) = difference(call, &file, lent, random) {
                 return Err(format!("{lent} bytes lent, {difference}, for {}", text::shown(&file)));
             }
         }
-        compared.numbers[expected(&file, 256).0.number as usize] += 1;
+        let answer = expected(&file, 256).0;
+        if is_random && answer.number == 11 {
+            compared.places.push(answer.place);
+        }
+        compared.numbers[answer.number as usize] += 1;
         compared.files += 1;
+    }
+    if compared.places.is_empty() {
+        return Err("no random file got 11".to_string());
     }
     Ok(compared)
 }
@@ -92,7 +109,8 @@ pub fn compare(call: Call, files: usize, seed: u64) -> Result<Compared, String> 
 #[cfg(test)]
 mod tests {
     use super::*;
-    use crate::block::decode;
+    use crate::block::{decode, Block};
+    use crate::parts::gates_left;
 
     /// The reference itself, as a call.
     fn right(file: &[u8], lent: &mut [u8]) -> Answer {
@@ -111,6 +129,13 @@ mod tests {
         for (number, count) in compared.numbers.iter().enumerate() {
             assert!(*count > 0 || number == 10, "number {number} does not occur");
         }
+        assert!(!noticed(&mut right));
+    }
+
+    /// The first files are not random.
+    #[test]
+    fn without_a_random_file_that_got_11_it_fails() {
+        assert!(compare(&mut right, 20, 5).is_err());
     }
 
     #[test]
@@ -125,6 +150,26 @@ mod tests {
             Answer { number: 10, place, saving } => Answer { number: 10, place: place / 4, saving },
             answer => answer,
         }));
+    }
+
+    /// The highest gate left other than the last.
+    fn highest_left(block: &Block) -> usize {
+        let left = gates_left(block, &mut Random::from_seed(1));
+        left[left.len() - 2]
+    }
+
+    /// 0, which was the place before document 02's K1; any one gate; the highest in place of the lowest.
+    #[test]
+    fn another_place_of_11_is_noticed() {
+        let places: [fn(&Block) -> usize; 3] = [|_| 0, |_| 1, highest_left];
+        for place in places {
+            assert!(noticed(&mut |file, lent| match right(file, lent) {
+                answer @ Answer { number: 11, .. } => {
+                    Answer { place: place(&decode(file).expect("a block")) as u32, ..answer }
+                }
+                answer => answer,
+            }));
+        }
     }
 
     #[test]

@@ -30,6 +30,8 @@ pub enum Wires {
     Wide,
     /// Series-parallel, then one wire more or elsewhere.
     Nearly,
+    /// Series-parallel but for a bridge, so that few gates are left (document 02, K1).
+    Bridged,
     /// No loop and no fault at the ends, else anything.
     General,
     /// Loops, or faults at the ends.
@@ -98,6 +100,18 @@ fn nearly_series_parallel(random: &mut Random, gates: usize) -> Vec<Wire> {
     wires
 }
 
+/// A series-parallel network with a bridge in place of one of its wires; at least four gates.
+fn bridged(random: &mut Random, gates: usize) -> Vec<Wire> {
+    let (c, d, last) = (gates - 3, gates - 2, gates - 1);
+    let around = series_parallel(random, gates - 2);
+    // The network around numbers its last gate as c.
+    let number = |gate: usize| if gate == c { last } else { gate };
+    let mut wires: Vec<(usize, usize)> = around.iter().map(|w| (number(w.from), number(w.to))).collect();
+    let (a, b) = wires.swap_remove(random.below(around.len()));
+    wires.extend([(a, c), (a, d), (c, d), (c, b), (d, b)]);
+    shuffled(random, gates, wires)
+}
+
 /// Any network without loop whose ends are right, with at most 256 wires.
 fn general(random: &mut Random, gates: usize) -> Vec<Wire> {
     let mut wires: Vec<(usize, usize)> = Vec::new();
@@ -151,6 +165,7 @@ pub fn wires(random: &mut Random, kind: Wires, gates: usize) -> Vec<Wire> {
         Wires::SeriesParallel => series_parallel(random, gates),
         Wires::Wide if gates > 2 => wide(random, gates),
         Wires::Nearly if gates > 2 => nearly_series_parallel(random, gates),
+        Wires::Bridged if gates > 3 => bridged(random, gates),
         Wires::General if gates > 1 => general(random, gates),
         Wires::Faulty if gates > 1 => faulty(random, gates),
         _ => series_parallel(random, gates),
@@ -158,7 +173,7 @@ pub fn wires(random: &mut Random, kind: Wires, gates: usize) -> Vec<Wire> {
 }
 
 /// A block of gates without delay and steps.
-fn bare_block(gates: usize, wires: Vec<Wire>) -> Block {
+pub fn bare_block(gates: usize, wires: Vec<Wire>) -> Block {
     let gate = Gate { delay: 0, p: 128, steps: Vec::new() };
     Block { arrival: 0, deadline: 0, p: 128, gates: vec![gate; gates], wires }
 }
@@ -271,6 +286,23 @@ pub fn any_block(random: &mut Random, most_gates: usize) -> Block {
     let gates = 1 + random.below(most_gates);
     let most_steps = random.pick(&[0, 1, 2, 8]);
     block(random, kind, values, gates, most_steps)
+}
+
+/// A block with a bridge, of four gates or more.
+pub fn bridged_block(random: &mut Random, most_gates: usize) -> Block {
+    let values = random.pick(&ALL_VALUES);
+    let gates = 4 + random.below(most_gates - 3);
+    let most_steps = random.pick(&[0, 1, 2, 8]);
+    block(random, Wires::Bridged, values, gates, most_steps)
+}
+
+/// A block of any kind, every eighth one with a bridge, so that 11 comes at many places.
+pub fn compared_block(random: &mut Random, most_gates: usize) -> Block {
+    if random.chance(1, 8) {
+        bridged_block(random, most_gates)
+    } else {
+        any_block(random, most_gates)
+    }
 }
 
 /// Whether a list later in the order of ties saves as much as the best: list merging, which heeds no order, returns one.

@@ -14,9 +14,7 @@ use tree::Tree;
 pub fn best_increases(file: &[u8], increases: &mut [u32; MAX_GATES]) -> Result<(usize, u64), Refusal> {
     let netlist = Netlist::read(file)?;
     netlist.check_network()?;
-    let Some(tree) = Tree::reduced(&netlist) else {
-        return refuse(11, 0);
-    };
+    let tree = Tree::reduced(&netlist)?;
     let time = i64::from(netlist.deadline) - i64::from(netlist.arrival);
     let spare = time - i64::from(tree.delay());
     if spare < 0 {

@@ -1,6 +1,8 @@
-//! Whether a block is series-parallel (document 01, "A part from gate a to gate b ..."), decided twice.
+//! Whether a block is series-parallel (document 01, "A part from gate a to gate b ..."), decided twice; and which gates are
+//! left of it where it is not (document 02, K1).
 
 use crate::block::{Block, Wire};
+use crate::random::Random;
 use std::collections::HashSet;
 
 /// A part: its two ends, and its wires and gates as sets of bits.
@@ -84,4 +86,158 @@ fn only_wires(wires: &HashSet<Wire>, gate: usize) -> Option<(Wire, Wire)> {
     let mut out = wires.iter().filter(|w| w.from == gate);
     let (wire_in, wire_out) = (into.next()?, out.next()?);
     (into.next().is_none() && out.next().is_none()).then_some((*wire_in, *wire_out))
+}
+
+/// A network in which a wire may stand several times: how many wires lead from each gate to each other, and the gates left.
+struct Multigraph {
+    wires: Vec<Vec<usize>>,
+    left: Vec<usize>,
+}
+
+/// One step of document 02, K1.
+#[derive(Clone, Copy, Debug, PartialEq)]
+enum Reduction {
+    /// Take away a gate with one wire in and one wire out, joining the two wires.
+    Series { from: usize, gate: usize, to: usize },
+    /// Merge two wires that lead from one gate to the same other.
+    Parallel { from: usize, to: usize },
+}
+
+impl Multigraph {
+    fn of(block: &Block) -> Multigraph {
+        let n = block.gates.len();
+        let mut wires = vec![vec![0; n]; n];
+        for wire in &block.wires {
+            wires[wire.from][wire.to] += 1;
+        }
+        Multigraph { wires, left: (0..n).collect() }
+    }
+
+    /// The taking away of a gate, if it has one wire in and one wire out.
+    fn series_reduction(&self, gate: usize) -> Option<Reduction> {
+        let wires_in: usize = self.left.iter().map(|&from| self.wires[from][gate]).sum();
+        let wires_out: usize = self.left.iter().map(|&to| self.wires[gate][to]).sum();
+        if wires_in != 1 || wires_out != 1 {
+            return None;
+        }
+        let from = self.left.iter().copied().find(|&from| self.wires[from][gate] == 1)?;
+        let to = self.left.iter().copied().find(|&to| self.wires[gate][to] == 1)?;
+        Some(Reduction::Series { from, gate, to })
+    }
+
+    /// Every reduction that applies.
+    fn reductions(&self) -> Vec<Reduction> {
+        let mut all = Vec::new();
+        for &from in &self.left {
+            all.extend(self.series_reduction(from));
+            let doubled = self.left.iter().filter(|&&to| self.wires[from][to] >= 2);
+            all.extend(doubled.map(|&to| Reduction::Parallel { from, to }));
+        }
+        all
+    }
+
+    fn apply(&mut self, reduction: Reduction) {
+        match reduction {
+            Reduction::Series { from, gate, to } => {
+                self.wires[from][gate] -= 1;
+                self.wires[gate][to] -= 1;
+                self.wires[from][to] += 1;
+                self.left.retain(|&g| g != gate);
+            }
+            Reduction::Parallel { from, to } => self.wires[from][to] -= 1,
+        }
+    }
+
+    /// Applies one of the reductions that apply, chosen at random; false if there is none.
+    fn reduce_once(&mut self, random: &mut Random) -> bool {
+        let reductions = self.reductions();
+        if reductions.is_empty() {
+            return false;
+        }
+        self.apply(random.pick(&reductions));
+        true
+    }
+}
+
+/// The gates left when gates with one wire in and one wire out are taken away, joining the two wires, and doubled wires
+/// merged, one after another in a random order, until neither applies (document 02, K1). They do not depend on the order;
+/// check-reference tries several.
+pub fn gates_left(block: &Block, random: &mut Random) -> Vec<usize> {
+    let mut graph = Multigraph::of(block);
+    while graph.reduce_once(random) {}
+    graph.left
+}
+
+/// The place of refusal 11: the lowest gate left other than 0 and n - 1. `None` if the block is series-parallel.
+pub fn lowest_left(block: &Block, random: &mut Random) -> Option<usize> {
+    let last = block.gates.len() - 1;
+    gates_left(block, random).into_iter().find(|&g| g != 0 && g != last)
+}
+
+#[cfg(test)]
+mod tests {
+    use super::*;
+    use crate::generate::bare_block;
+
+    fn network(gates: usize, wires: &[(usize, usize)]) -> Block {
+        bare_block(gates, wires.iter().map(|&(from, to)| Wire { from, to }).collect())
+    }
+
+    fn bridge() -> Block {
+        network(4, &[(0, 1), (0, 2), (1, 2), (1, 3), (2, 3)])
+    }
+
+    #[test]
+    fn gates_left_by_hand() {
+        let behind_a_chain = network(6, &[(0, 1), (1, 2), (2, 3), (2, 4), (3, 4), (3, 5), (4, 5)]);
+        let wire_beside_a_chain = network(3, &[(0, 1), (1, 2), (0, 2)]);
+        for seed in 0..20 {
+            let left = |block: &Block| gates_left(block, &mut Random::from_seed(seed));
+            let lowest = |block: &Block| lowest_left(block, &mut Random::from_seed(seed));
+            assert_eq!((left(&bridge()), lowest(&bridge())), (vec![0, 1, 2, 3], Some(1)));
+            assert_eq!((left(&behind_a_chain), lowest(&behind_a_chain)), (vec![0, 2, 3, 4, 5], Some(2)));
+            assert_eq!((left(&wire_beside_a_chain), lowest(&wire_beside_a_chain)), (vec![0, 2], None));
+            assert_eq!((left(&network(1, &[])), lowest(&network(1, &[]))), (vec![0], None));
+        }
+    }
+
+    /// A gate that a doubled wire leads to has two wires in: it goes only after the two are merged.
+    #[test]
+    fn wires_are_counted() {
+        let mut graph = Multigraph::of(&network(4, &[(0, 1), (1, 2), (0, 2), (2, 3)]));
+        let steps = [
+            Reduction::Series { from: 0, gate: 1, to: 2 },
+            Reduction::Parallel { from: 0, to: 2 },
+            Reduction::Series { from: 0, gate: 2, to: 3 },
+        ];
+        for step in steps {
+            assert_eq!(graph.reductions(), [step]);
+            graph.apply(step);
+        }
+        assert_eq!(graph.reductions(), []);
+    }
+
+    /// Of three gates and a wire side by side, two steps take away any two gates, or take away any one and merge.
+    #[test]
+    fn orders_differ() {
+        let block = network(5, &[(0, 1), (1, 4), (0, 2), (2, 4), (0, 3), (3, 4), (0, 4)]);
+        let mut reached = HashSet::new();
+        for seed in 0..200 {
+            let random = &mut Random::from_seed(seed);
+            let mut graph = Multigraph::of(&block);
+            assert!(graph.reduce_once(random) && graph.reduce_once(random));
+            reached.insert((graph.left, graph.wires[0][4]));
+        }
+        assert_eq!(reached.len(), 6);
+    }
+
+    /// If a wire that stands once were merged away, the gates left of the bridge would depend on the order.
+    #[test]
+    fn merging_a_single_wire_is_noticed() {
+        let random = &mut Random::from_seed(1);
+        let mut graph = Multigraph::of(&bridge());
+        graph.apply(Reduction::Parallel { from: 1, to: 2 });
+        while graph.reduce_once(random) {}
+        assert_eq!(graph.left, [0, 3]);
+    }
 }

@@ -1,5 +1,6 @@
-//! The blocks that document 01 tries by hand, with the answers that it gives for them. Numbers that it leaves open (some
-//! savings, some delays) are worked out by hand; no answer comes from a program.
+//! The blocks that document 01 tries by hand, with the answers that it gives for them; for the bridge, which document 02's
+//! K1 changes, the answer given there. Numbers that are left open (some savings, some delays) are worked out by hand; no
+//! answer comes from a program.
 
 use crate::block::{encode, Block};
 use crate::text;
@@ -132,7 +133,8 @@ pub fn all() -> Vec<Worked> {
     all.push(worked("one gate", file(lone), vec![Best(&[2], 6 * U)]));
     all.push(worked("chain of two, deadline 5", chain_of_two(5), vec![Best(&[0, 3], 9 * U)]));
     all.push(worked("chain of two, deadline 8", chain_of_two(8), vec![Best(&[2, 4], 18 * U)]));
-    all.push(worked("bridge", only_wires(4, "0-1 0-2 1-2 1-3 2-3"), vec![Refused(11, 0)]));
+    let bridge = only_wires(4, "0-1 0-2 1-2 1-3 2-3");
+    all.push(worked("bridge", bridge, vec![Refused(11, 1), Printed("refused 11 1\n")]));
     all.push(worked("a wire beside a chain", only_wires(3, "0-1 1-2 0-2"), vec![SeriesParallel]));
     all.extend(paper());
     all.push(worked("p of 0 at the input", file(still), vec![Best(&[0, 4], 4 * U)]));

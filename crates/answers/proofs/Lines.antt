@@ -15,7 +15,7 @@ use Rattle.model.specs.Block.{Block}
 use Rattle.model.specs.Part.{SeriesParallel}
 use Rattle.model.specs.Curve.{Pair}
 use Rattle.model.specs.Slack.{start, spare}
-use Rattle.model.specs.Answer.{accepted, refusal, Outcome, Line, fits, passes, well-formed, At, curve, CurveLines, best, BestLines, AnswersBest}
+use Rattle.model.specs.Answer.{accepted, refusal, Outcome, fits, passes, well-formed, curve, CurveLines, best, BestLines, AnswersBest}
 use Rattle.model.proofs.Slack.{late-is}
 use Rattle.blockfile.specs.Held.{GateArrays, WireArrays}
 use Rattle.loading.specs.HeldFile.{HeldFile}
@@ -33,11 +33,6 @@ pub in-front : (x lent : List ℕ) (n : ℕ) → length x ≡ n → x ++ drop n 
 unfolding over
 in-front x lent n e = ap (λ (k : ℕ). x ++ drop k lent) (sym e)
 
--- 11, for either call
-pub unfit-line : {B : Block} {S : Type 0} {lent : S} {further : Outcome S → Type 0} → ¬ (SeriesParallel B)
-    → Line lent 11 (At 0 (¬ (SeriesParallel B))) further (record { answer = refusal 11 0; memory = lent })
-unfit-line none = fits 0 (refl, none) refl
-
 -- a slice that is long enough for the gates: the answer is that of the lines from 11 on
 pub best-answered : {file : List ℕ} {n m arrival deadline activity : ℕ} {G : GateArrays} {W : WireArrays} {order : List ℕ} (h : HeldFile file n m arrival deadline activity G W order)
     {lent : List ℕ} {o : Outcome (List ℕ)} → n ≤ length lent → BestLines (block h) lent o → AnswersBest file lent o
@@ -49,14 +44,14 @@ module _ {file : List ℕ} {n m arrival deadline activity : ℕ} {G : GateArrays
 
   -- 12
   pub late-line : {lent : List ℕ} {r : ℕ} → r ≡ start (block h) → deadline < arrival + r → BestLines (block h) lent (record { answer = refusal 12 0; memory = lent })
-  late-line is late = passes (λ p n. n .1 sp) (fits 0 (refl, (sp, late-exactly .1 (omega arith))) refl)
+  late-line is late = passes (λ p n. n .0 sp) (fits 0 (refl, (sp, late-exactly .1 (omega arith))) refl)
 
   pub curve-line : {ws gs ws′ gs′ : List ℕ} {found : TreeCurve} {r : ℕ} → CurveFound (block h) sp ws gs ws′ gs′ found
       → r ≡ start (block h)
       → CurveLines (block h) (record { for-widths = ws; for-gains = gs })
       (record { answer = accepted (r ∷ found .saving ∷ found .pairs ∷ []); memory = record { for-widths = ws′; for-gains = gs′ } })
   curve-line found is =
-      passes (λ p n. n .1 sp)
+      passes (λ p n. n .0 sp)
       (curve _ _ _ sp (Optimum.curve (block h) sp (join (block h) (the-limits h) (h .well .network)) (descending (block h) (the-limits h)))
       (rw (is, start-same h sp, found .saved, found .count, found .widths, found .gains) refl))
 
@@ -68,7 +63,7 @@ module _ {file : List ℕ} {n m arrival deadline activity : ℕ} {G : GateArrays
       let same = start-same h sp in
       let ticks : deadline - arrival - start-of (block h) (block-tree (block h) sp) ≡ deadline - (arrival + r) = omega arith in
       let b = Optimum.best (block h) sp (join (block h) (the-limits h) (h .well .network)) (descending (block h) (the-limits h)) (omega arith) in
-      passes (λ p n. n .1 sp)
+      passes (λ p n. n .0 sp)
       (passes (λ p l. let late = late-exactly .0 (l .1 .1) in omega arith)
       (best x sp (rw (found .list, ← ticks) b) (rw (found .saved, e, count h) refl)))
 

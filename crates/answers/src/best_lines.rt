@@ -6,6 +6,7 @@ use model::limits::GateNumbers;
 use model::limits::MAX_GATES;
 use model::limits::StepNumbers;
 use planting::tree_words::TREE_WORDS;
+use shaping::plant::TreeAnswer;
 use shaping::plant::plant_block;
 use spending::tree::tree_increases;
 use timing::start::start_time;
@@ -41,9 +42,9 @@ pub fn best_held(
     ensures { λ r. ⌜ ((file : List ℕ) → HeldFile file n m arrival deadline activity (gate-arrays (now (delays .entry)) (now (activities .entry)) (now (counts .entry)) (now («step_widths» .entry)) (now (drops .entry))) (wire-arrays (now (sources .entry)) (now (targets .entry)) (now («wire_delays» .entry))) (now (order .entry)) → BestLines (block-held n m arrival deadline activity (gate-arrays (now (delays .entry)) (now (activities .entry)) (now (counts .entry)) (now («step_widths» .entry)) (now (drops .entry))) (wire-arrays (now (sources .entry)) (now (targets .entry)) (now («wire_delays» .entry)))) (now (increases .entry)) (record { answer = best-answer r; memory = now (increases .exit) })) ⌝ }
 {
     let mut tree = [0u32; TREE_WORDS];
-    let nodes = plant_block(n, m, sources, targets, wire_delays, &mut tree);
-    if nodes == 0 {
-        return BestAnswer::Refused(Refusal::NotSeriesParallel);
+    let planted = plant_block(n, m, sources, targets, wire_delays, &mut tree);
+    if let TreeAnswer::NotSeriesParallel { gate } = planted {
+        return BestAnswer::Refused(Refusal::NotSeriesParallel { gate });
     }
     let start = start_time(n, m, order, sources, targets, wire_delays, delays);
     if deadline < arrival + start {

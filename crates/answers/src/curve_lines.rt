@@ -6,6 +6,7 @@ use model::limits::GateNumbers;
 use model::limits::MAX_GATES;
 use model::limits::StepNumbers;
 use planting::tree_words::TREE_WORDS;
+use shaping::plant::TreeAnswer;
 use shaping::plant::plant_block;
 use spending::tree::tree_curve;
 use timing::start::start_time;
@@ -42,9 +43,9 @@ pub fn curve_held(
     ensures { λ r. ⌜ CurveBounds r (now (gains .exit)) ⌝ }
 {
     let mut tree = [0u32; TREE_WORDS];
-    let nodes = plant_block(n, m, sources, targets, wire_delays, &mut tree);
-    if nodes == 0 {
-        return CurveAnswer::Refused(Refusal::NotSeriesParallel);
+    let planted = plant_block(n, m, sources, targets, wire_delays, &mut tree);
+    if let TreeAnswer::NotSeriesParallel { gate } = planted {
+        return CurveAnswer::Refused(Refusal::NotSeriesParallel { gate });
     }
     let start = start_time(n, m, order, sources, targets, wire_delays, delays);
     let mut inputs = [0u32; MAX_GATES];

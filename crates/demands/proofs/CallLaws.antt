@@ -21,13 +21,14 @@ use Rattle.model.specs.Part.{SeriesParallel}
 use Rattle.model.specs.Slack.{slack, spare}
 use Rattle.model.specs.Refusal.{WellFormed}
 use Rattle.model.specs.Layout.{increase-bytes, list-bytes, GivesLayout, laid, AnswersLayout}
-use Rattle.model.specs.Answer.{Outcome, Slices, accepted, Line, At, Gives, Shorter, Exceeds, PathNotInTime, GivesCurve, curve, CurveLines, GivesBest, best, BestLines, AnswersSlacks, AnswersCurve, AnswersBest, AnswersJudge}
+use Rattle.model.specs.Answer.{Outcome, Slices, accepted, Line, At, Gives, Shorter, Exceeds, PathNotInTime, GivesCurve, curve, CurveLines, GivesBest, best, SizingLines, BestLines, AnswersSlacks, AnswersCurve, AnswersBest, AnswersJudge}
 use Rattle.model.proofs.Limited.{BlockLimits, read-limits}
 use Rattle.model.proofs.Source.{Along}
 use Rattle.model.proofs.Slack as paths
 use Rattle.ordering.proofs.OrderOrLoop.{block-order}
-use Rattle.shaping.proofs.Facts.{join}
-use Rattle.demands.proofs.TableLaws.{own-lines, passed, Lines}
+use Rattle.parts.specs.Network.{Network}
+use Rattle.shaping.proofs.Facts.{join, network}
+use Rattle.demands.proofs.TableLaws.{own-lines, passed}
 
 -- two equivalences, one after the other
 pub both : {P Q R : Type 0} → P ↔ Q → Q ↔ R → P ↔ R
@@ -51,15 +52,15 @@ pub best-bytes : {B : Block} {lent : List ℕ} {o : Outcome (List ℕ)} → Give
     → (x : List ℕ) × Best B x × (o ≡ record { answer = accepted (saving B x ∷ gate-count B ∷ []); memory = over (list-bytes x) lent })
 best-bytes (laid x sp b e) = (x, b, e)
 
--- a list that is given is accepted
-pub best-accepts : {B : Block} {lent : List ℕ} {o : Outcome (List ℕ)} → GivesBest B lent o → o .answer .number ≡ 0
-best-accepts (best x sp b e) = ap (λ o. o .answer .number) e
+-- what is given is accepted, and of a series-parallel block
+pub best-accepts : {B : Block} {lent : List ℕ} {o : Outcome (List ℕ)} → GivesBest B lent o → (o .answer .number ≡ 0) × SeriesParallel B
+best-accepts (best x sp b e) = (ap (λ o. o .answer .number) e, sp)
 
-pub layout-accepts : {B : Block} {lent : List ℕ} {o : Outcome (List ℕ)} → GivesLayout B lent o → o .answer .number ≡ 0
-layout-accepts (laid x sp b e) = ap (λ o. o .answer .number) e
+pub layout-accepts : {B : Block} {lent : List ℕ} {o : Outcome (List ℕ)} → GivesLayout B lent o → (o .answer .number ≡ 0) × SeriesParallel B
+layout-accepts (laid x sp b e) = (ap (λ o. o .answer .number) e, sp)
 
-pub curve-not-eleven : {B : Block} {lent : Slices} {o : Outcome Slices} → GivesCurve B lent o → ¬ (o .answer .number ≡ 11)
-curve-not-eleven (curve s a ps sp c e) q = let none = ap (λ o. o .answer .number) e in omega arith
+pub curve-accepts : {B : Block} {lent : Slices} {o : Outcome Slices} → GivesCurve B lent o → (¬ (o .answer .number ≡ 11)) × SeriesParallel B
+curve-accepts (curve s a ps sp c e) = (λ q. let none = ap (λ o. o .answer .number) e in omega arith, sp)
 
 -- the lines of slacks from 10 on
 abbrev SlacksLines : List ℤ → Block → Outcome (List ℤ) → Type 0
@@ -74,6 +75,10 @@ JudgeLines lent X =
 module _ {file : List ℕ} {B : Block} (well : WellFormed file B) where
   limits : BlockLimits B
   limits = read-limits file (well .reads)
+
+  -- what the reduction takes for granted
+  pub as-network : Network B
+  as-network = network B limits (well .network)
 
   pub some-gate : 0 < gate-count B
   some-gate = omega (arith, limits .some-gate)
@@ -97,8 +102,8 @@ module _ {file : List ℕ} {B : Block} (well : WellFormed file B) where
   late-or-not = (λ w. (w .0, late-exactly .0 (w .1)), λ w. (w .0, late-exactly .1 (w .1)))
 
   -- a series-parallel block that some list brings in time passes 11 and 12
-  pub in-time : {S : Type 0} {lent : S} {given : Outcome S → Type 0} {o : Outcome S} {y : List ℕ} → SeriesParallel B → InTime B y → Lines B lent given o → given o
-  in-time {y = y} sp ok l = passed (λ p w. late-exactly .0 (w .1 .1) y ok) (passed (λ p w. w .1 sp) l)
+  pub in-time : {S : Type 0} {lent : S} {given : Outcome S → Type 0} {o : Outcome S} {y : List ℕ} → SeriesParallel B → InTime B y → SizingLines B lent given o → given o
+  in-time {y = y} sp ok l = passed (λ p w. late-exactly .0 (w .1 .1) y ok) (passed (λ p w. w .0 sp) l)
 
   pub slacks-lines : {lent : List ℤ} {o : Outcome (List ℤ)} → AnswersSlacks file lent o → SlacksLines lent B o
   slacks-lines {lent} = own-lines (SlacksLines lent) well
@@ -115,6 +120,6 @@ module _ {file : List ℕ} {B : Block} (well : WellFormed file B) where
   judge-lines {lent} = own-lines (λ (X : Block). Line lent 10 (Shorter lent (gate-count X)) (JudgeLines lent X)) well
 
   pub layout-lines : {lent : List ℕ} {o : Outcome (List ℕ)} → AnswersLayout file lent o
-      → Line lent 10 (Shorter lent (increase-bytes * gate-count B)) (Lines B lent (GivesLayout B lent)) o
+      → Line lent 10 (Shorter lent (increase-bytes * gate-count B)) (SizingLines B lent (GivesLayout B lent)) o
   layout-lines {lent} =
-      own-lines (λ (X : Block). Line lent 10 (Shorter lent (increase-bytes * gate-count X)) (Lines X lent (GivesLayout X lent))) well
+      own-lines (λ (X : Block). Line lent 10 (Shorter lent (increase-bytes * gate-count X)) (SizingLines X lent (GivesLayout X lent))) well

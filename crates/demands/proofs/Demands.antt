@@ -3,11 +3,12 @@
 -- Assumes nothing.
 use mathlib.Core.Path.{_≡_}
 use mathlib.Core.Logic.{_↔_, _⊎_, inl, inr, ⊎-elim}
-use mathlib.Core.List.{List, [], _∷_}
+use mathlib.Core.List.{List, [], _∷_, List·Memᴰ}
 use Prim.Native.Nat.{ℕ, _+_, _*_, _≤_, _<_}
 use lib.IntN.{ℤ, pos, _-ℤ_}
 use lib.ListN.{length, take, drop}
 use Rattle.lists.specs.Over.{build, over}
+use Rattle.lists.specs.Search.{Lowest}
 use Rattle.lists.proofs.Compare.{le-or-lt}
 use Rattle.model.specs.Limits.{max-pairs}
 use Rattle.model.specs.Block.{Block, gate-count, first, last}
@@ -17,14 +18,17 @@ use Rattle.model.specs.InTime.{drawn, InTime, IsStart}
 use Rattle.model.specs.Best.{Best}
 use Rattle.model.specs.Part.{Shape, Whole, SeriesParallel, lone, built}
 use Rattle.model.specs.Slack.{source-delay, required-time, slack, start}
+use Rattle.model.specs.Remainder.{Moment, ReducedTo, Remains}
 use Rattle.model.specs.Refusal.{WellFormed, IllFormed}
 use Rattle.model.specs.Layout.{increase-bytes, list-bytes, GivesLayout, AnswersLayout}
-use Rattle.model.specs.Answer.{Outcome, Slices, accepted, refusal, Judged, ill-formed, well-formed, GivesCurve, GivesBest, AnswersSlacks, AnswersCurve, AnswersBest, AnswersJudge}
+use Rattle.model.specs.Answer.{Outcome, Slices, accepted, refusal, Line, Judged, ill-formed, well-formed, NotSeriesParallelAt, GivesCurve, GivesBest, AnswersSlacks, AnswersCurve, AnswersBest, AnswersJudge}
 use Rattle.model.proofs.Slack as paths
-use Rattle.model.proofs.Answer.{ill-unique}
-use Rattle.demands.proofs.TableLaws as tables
-use Rattle.demands.proofs.TableLaws.{ill-formed-number, passed, decided, roomy, eleven-line}
-use Rattle.demands.proofs.CallLaws.{both, best-in-front, best-bytes, some-gate, along, late-or-not, in-time, slacks-lines, curve-lines, best-lines, judge-lines, layout-lines, best-accepts, layout-accepts, curve-not-eleven}
+use Rattle.model.proofs.Answer.{ill-unique, eleven-unique}
+use Rattle.parts.proofs.Remainder.{same-gates-left}
+use Rattle.parts.proofs.Remains.{some-end, left-exactly}
+use Rattle.demands.proofs.TableLaws.{ill-formed-number, passed, decided, roomy, answered-at, eleven-line, after-eleven}
+use Rattle.demands.proofs.TableLaws.{twelve-exactly as twelve-line}
+use Rattle.demands.proofs.CallLaws.{both, best-in-front, best-bytes, as-network, some-gate, along, late-or-not, in-time, slacks-lines, curve-lines, best-lines, judge-lines, layout-lines, best-accepts, layout-accepts, curve-accepts}
 use Rattle.demands.proofs.Judging.{accepted-in-time, accepted-saves}
 
 -- the block is one gate without a wire
@@ -41,6 +45,19 @@ not-series-parallel {B} = (λ none. (λ l. none (lone (l .0) (l .1)), λ P w. no
     back : NotBuilt B → ¬ (SeriesParallel B)
     back none (lone one no-wire) = none .0 (one, no-wire)
     back none (built P whole) = none .1 P whole
+
+-- what is said of 11: when it comes, and with which place
+pub record ElevenExactly {S : Type 0} (B : Block) (o : Outcome S) : Type 0 where
+  pub exactly : ((p : ℕ) × (o .answer ≡ refusal 11 p)) ↔ NotBuilt B
+  pub place : (p : ℕ) → (o .answer ≡ refusal 11 p) ↔ (NotBuilt B × Lowest (Remains B) p)
+
+eleven-by : {S : Type 0} {B : Block} {lent : S} {further : Outcome S → Type 0} {o : Outcome S} → (further o → (¬ (o .answer .number ≡ 11)) × SeriesParallel B) → Line lent 11 (NotSeriesParallelAt B) further o → ElevenExactly B o
+eleven-by other line =
+    let (there, back) = not-series-parallel in
+    record {
+      exactly = both (eleven-line other line) not-series-parallel;
+      place = λ p. both (answered-at eleven-unique (λ f. other f .0) line p) (λ w. (there (w .0), w .1), λ w. (back (w .0), w .1));
+    }
 
 -- DEMAND 1, its second sentence. "Every other file .. gets one numbered refusal with its place, and the lent memory is unchanged": of every call, since each begins with the refusals 1 to 9.
 pub other-file : {S : Type 0} {file : List ℕ} {lent : S} {further : Block → Outcome S → Type 0} {o : Outcome S} → ((B : Block) → ¬ (WellFormed file B))
@@ -62,7 +79,7 @@ module _ {file : List ℕ} {B : Block} (well : WellFormed file B) where
   pub curve-given : {lent : Slices} {o : Outcome Slices} → AnswersCurve file lent o → max-pairs ≤ length (lent .for-widths) → max-pairs ≤ length (lent .for-gains)
       → SeriesParallel B
       → GivesCurve B lent o
-  curve-given a wide long sp = passed (λ p w. w .1 sp) (roomy long (roomy wide (curve-lines well a)))
+  curve-given a wide long sp = passed (λ p w. w .0 sp) (roomy long (roomy wide (curve-lines well a)))
 
   -- .. and when also in time its increases."
   pub increases-given : {lent y : List ℕ} {o : Outcome (List ℕ)} → AnswersBest file lent o → gate-count B ≤ length lent → SeriesParallel B → InTime B y
@@ -139,23 +156,33 @@ module _ {file : List ℕ} {B : Block} (well : WellFormed file B) where
       → (x : List ℕ) × Best B x × (o ≡ record { answer = accepted (saving B x ∷ gate-count B ∷ []); memory = over (list-bytes x) lent })
   best-laid-out a long sp ok = best-bytes (layout-given a long sp ok)
 
-  -- "Not series-parallel" is returned exactly when the block is no lone gate and no building up gives it, ..
-  pub eleven-exactly : {lent : List ℕ} {o : Outcome (List ℕ)} → AnswersBest file lent o → gate-count B ≤ length lent → (o .answer ≡ refusal 11 0) ↔ NotBuilt B
-  eleven-exactly a long = both (tables.eleven-exactly best-accepts (roomy long (best-lines well a))) not-series-parallel
+  -- "Not series-parallel" is returned exactly when the block is no lone gate and no building up gives it; and with which place, "the lowest-numbered gate left other than 0 and n − 1" (document 02, K1), ..
+  pub eleven-exactly : {lent : List ℕ} {o : Outcome (List ℕ)} → AnswersBest file lent o → gate-count B ≤ length lent → ElevenExactly B o
+  eleven-exactly a long = eleven-by (after-eleven best-accepts) (roomy long (best-lines well a))
 
-  pub layout-eleven-exactly : {lent : List ℕ} {o : Outcome (List ℕ)} → AnswersLayout file lent o → increase-bytes * gate-count B ≤ length lent
-      → (o .answer ≡ refusal 11 0) ↔ NotBuilt B
-  layout-eleven-exactly a long = both (tables.eleven-exactly layout-accepts (roomy long (layout-lines well a))) not-series-parallel
+  pub layout-eleven-exactly : {lent : List ℕ} {o : Outcome (List ℕ)} → AnswersLayout file lent o → increase-bytes * gate-count B ≤ length lent → ElevenExactly B o
+  layout-eleven-exactly a long = eleven-by (after-eleven layout-accepts) (roomy long (layout-lines well a))
 
-  pub curve-eleven-exactly : {lent : Slices} {o : Outcome Slices} → AnswersCurve file lent o → max-pairs ≤ length (lent .for-widths) → max-pairs ≤ length (lent .for-gains)
-      → (o .answer ≡ refusal 11 0) ↔ NotBuilt B
-  curve-eleven-exactly a wide long = both (eleven-line curve-not-eleven (roomy long (roomy wide (curve-lines well a)))) not-series-parallel
+  pub curve-eleven-exactly : {lent : Slices} {o : Outcome Slices} → AnswersCurve file lent o → max-pairs ≤ length (lent .for-widths) → max-pairs ≤ length (lent .for-gains) → ElevenExactly B o
+  curve-eleven-exactly a wide long = eleven-by curve-accepts (roomy long (roomy wide (curve-lines well a)))
 
   -- .. and "late" exactly when it is series-parallel and no list is in time.
   pub twelve-exactly : {lent : List ℕ} {o : Outcome (List ℕ)} → AnswersBest file lent o → gate-count B ≤ length lent
       → (o .answer ≡ refusal 12 0) ↔ (SeriesParallel B × ((x : List ℕ) → ¬ (InTime B x)))
-  twelve-exactly a long = both (tables.twelve-exactly best-accepts (roomy long (best-lines well a))) (late-or-not well)
+  twelve-exactly a long = both (twelve-line best-accepts (roomy long (best-lines well a))) (late-or-not well)
 
   pub layout-twelve-exactly : {lent : List ℕ} {o : Outcome (List ℕ)} → AnswersLayout file lent o → increase-bytes * gate-count B ≤ length lent
       → (o .answer ≡ refusal 12 0) ↔ (SeriesParallel B × ((x : List ℕ) → ¬ (InTime B x)))
-  layout-twelve-exactly a long = both (tables.twelve-exactly layout-accepts (roomy long (layout-lines well a))) (late-or-not well)
+  layout-twelve-exactly a long = both (twelve-line layout-accepts (roomy long (layout-lines well a))) (late-or-not well)
+
+  -- DOCUMENT 02, K1. "Show that the gates left don't depend on the order": whatever gates are taken away and doubled wires merged, and in whatever order, until neither applies, the same gates are taken away, ..
+  pub same-left : (M N : Moment) → ReducedTo B M → ReducedTo B N → (g : ℕ) → List·Memᴰ g (M .taken) ↔ List·Memᴰ g (N .taken)
+  same-left = same-gates-left B
+
+  -- .. some order comes to an end, ..
+  pub left-at-an-end : (M : Moment) × ReducedTo B M
+  left-at-an-end = some-end (as-network well)
+
+  -- .. and a gate other than 0 and n − 1 is left exactly when "not series-parallel" is true.
+  pub left-when-not-built : ((g : ℕ) × Remains B g) ↔ NotBuilt B
+  left-when-not-built = both (left-exactly (as-network well)) not-series-parallel

@@ -1,19 +1,20 @@
 -- Laws of the tables of refusals (`Judged` and `Line` of model): which line an outcome comes from, by what holds of the file and the lent slices.
 -- Assumes nothing.
-use mathlib.Core.Path.{_≡_, refl, sym, _∙_, ap}
+use mathlib.Core.Path.{_≡_, refl, sym, _∙_, ap, subst}
 use mathlib.Core.Logic.{_↔_}
 use mathlib.Core.List.{List}
 use Prim.Native.Nat.{ℕ, _≤_, _<_}
 use native.Mathlib.Omega.{arith}
 use lib.IntN.{pos}
 use lib.Signed.{_<ℤ_}
+use lib.ListN.{getD}
 use Rattle.model.specs.Block.{Block}
 use Rattle.model.specs.Part.{SeriesParallel}
 use Rattle.model.specs.Slack.{spare}
 use Rattle.model.specs.Netlist.{block-of}
 use Rattle.model.specs.File.{decode, read-block}
 use Rattle.model.specs.Refusal.{WellFormed, IllFormed, unread, loop, ends}
-use Rattle.model.specs.Answer.{Answer, Outcome, refusal, Line, fits, passes, At, Judged, ill-formed, well-formed}
+use Rattle.model.specs.Answer.{Answer, Outcome, refusal, Line, fits, passes, At, Judged, ill-formed, well-formed, NotSeriesParallelAt, LateAt, SizingLines}
 use Rattle.model.proofs.Reading.{made-refused}
 use Rattle.model.proofs.Place.{refused-at-fault, at-fault-number}
 use Rattle.model.proofs.Answer.{carried, well-not-ill}
@@ -52,27 +53,29 @@ module _ {S : Type 0} {lent : S} {o : Outcome S} where
   decided {k} h (fits p (z, w) e) = e ∙ ap (λ (q : ℕ). record { answer = refusal k q; memory = lent }) z
   decided {place = place} h (passes n f) = absurd (n place (refl, h))
 
-  -- 11 is answered exactly where its line fits, if no further line answers it
-  pub eleven-line : {B : Block} {further : Outcome S → Type 0} → (further o → ¬ (o .answer .number ≡ 11)) → Line lent 11 (At 0 (¬ (SeriesParallel B))) further o
-      → (o .answer ≡ refusal 11 0) ↔ ¬ (SeriesParallel B)
-  eleven-line other (fits p (z, none) e) = (λ q. none, λ n. ap (λ o. o .answer) e ∙ ap (refusal 11) z)
-  eleven-line other (passes n f) = (λ q. absurd (other f (ap (λ (a : Answer). a .number) q)), λ none. absurd (n 0 (refl, none)))
+  -- A line with a place is answered exactly where it fits, if it fits one place at most and no further line has its number.
+  pub answered-at : {k : ℕ} {when : ℕ → Type 0} {further : Outcome S → Type 0} → ((p q : ℕ) → when p → when q → p ≡ q) → (further o → ¬ (o .answer .number ≡ k)) → Line lent k when further o
+      → (p : ℕ) → (o .answer ≡ refusal k p) ↔ when p
+  answered-at {when = when} one other (fits q w e) p = (
+    λ is. subst when (ap (λ (a : Answer). getD (a .values) 0 0) (sym (ap (λ o. o .answer) e) ∙ is)) w,
+    λ v. ap (λ o. o .answer) e ∙ ap (refusal _) (one q p w v),
+  )
+  answered-at one other (passes n f) p = (λ is. absurd (other f (ap (λ (a : Answer). a .number) is)), λ v. absurd (n p v))
 
--- the lines of the best increases from 11 on, to any kind of slice: not series-parallel, late, or what is given
-abbrev pub Lines : {S : Type 0} → Block → S → (Outcome S → Type 0) → Outcome S → Type 0
-Lines B lent given = Line lent 11 (At 0 (¬ (SeriesParallel B))) (Line lent 12 (At 0 (SeriesParallel B × (spare B <ℤ pos 0))) given)
+  -- 11 is answered exactly where the block is not series-parallel, if the further lines are for series-parallel blocks and do not answer it.
+  pub eleven-line : {B : Block} {further : Outcome S → Type 0} → (further o → (¬ (o .answer .number ≡ 11)) × SeriesParallel B) → Line lent 11 (NotSeriesParallelAt B) further o
+      → ((p : ℕ) × (o .answer ≡ refusal 11 p)) ↔ ¬ (SeriesParallel B)
+  eleven-line other (fits p w e) = (λ is. w .0, λ unfit. (p, ap (λ o. o .answer) e))
+  eleven-line other (passes n f) = (λ (p, is). absurd (other f .0 (ap (λ (a : Answer). a .number) is)), λ unfit. absurd (unfit (other f .1)))
 
--- what is given is accepted
-module _ {S : Type 0} {B : Block} {lent : S} {given : Outcome S → Type 0} {o : Outcome S} (accepts : given o → o .answer .number ≡ 0) where
-  pub eleven-exactly : Lines B lent given o → (o .answer ≡ refusal 11 0) ↔ ¬ (SeriesParallel B)
-  eleven-exactly = eleven-line other
-    where
-      other : Line lent 12 (At 0 (SeriesParallel B × (spare B <ℤ pos 0))) given o → ¬ (o .answer .number ≡ 11)
-      other (fits p w e) q = let twelve = ap (λ o. o .answer .number) e in omega arith
-      other (passes n g) q = let none = accepts g in omega arith
+-- what is given is accepted, and of a series-parallel block
+module _ {S : Type 0} {B : Block} {lent : S} {given : Outcome S → Type 0} {o : Outcome S} (accepts : given o → (o .answer .number ≡ 0) × SeriesParallel B) where
+  pub after-eleven : Line lent 12 (LateAt B) given o → (¬ (o .answer .number ≡ 11)) × SeriesParallel B
+  after-eleven (fits p (z, w) e) = (λ q. let twelve = ap (λ o. o .answer .number) e in omega arith, w .0)
+  after-eleven (passes n g) = let (none, sp) = accepts g in (λ q. omega arith, sp)
 
-  pub twelve-exactly : Lines B lent given o → (o .answer ≡ refusal 12 0) ↔ (SeriesParallel B × (spare B <ℤ pos 0))
-  twelve-exactly (fits p (z, none) e) = (λ q. absurd (apart (sym (ap (λ o. o .answer) e) ∙ q) (omega arith)), λ w. absurd (none (w .0)))
+  pub twelve-exactly : SizingLines B lent given o → (o .answer ≡ refusal 12 0) ↔ (SeriesParallel B × (spare B <ℤ pos 0))
+  twelve-exactly (fits p (none, low) e) = (λ q. absurd (apart (sym (ap (λ o. o .answer) e) ∙ q) (omega arith)), λ w. absurd (none (w .0)))
   twelve-exactly (passes n (fits p (z, w) e)) = (λ q. w, λ v. ap (λ o. o .answer) e ∙ ap (refusal 12) z)
   twelve-exactly (passes n (passes m g)) =
-      (λ q. let a = ap (λ (a : Answer). a .number) q in let none = accepts g in absurd (omega arith), λ w. absurd (m 0 (refl, w)))
+      (λ q. let a = ap (λ (a : Answer). a .number) q in let none = accepts g .0 in absurd (omega arith), λ w. absurd (m 0 (refl, w)))

@@ -6,8 +6,6 @@ use mathlib.Core.List.{List, [], _∷_}
 use Prim.Native.Nat.{ℕ, _*_, _^_, _<_, _≤_}
 use native.Mathlib.Omega.{arith}
 use lib.ListN.{length, getD, take}
-use lib.IntN.{pos}
-use lib.Signed.{_<ℤ_}
 use Rattle.lists.specs.Over.{over}
 use Rattle.lists.proofs.Over.{take-over}
 use Rattle.model.specs.declared.Refusal.{Refusal}
@@ -16,12 +14,11 @@ use Rattle.model.specs.Limits.{max-gates}
 use Rattle.model.specs.Block.{Block, gate-count}
 use Rattle.model.specs.Gain.{saving}
 use Rattle.model.specs.Best.{Best}
-use Rattle.model.specs.Part.{SeriesParallel}
-use Rattle.model.specs.Slack.{spare}
 use Rattle.model.specs.Refusal.{IllFormed}
-use Rattle.model.specs.Answer.{Answer, accepted, refusal, refusal-answer, Outcome, Line, fits, passes, At, well-formed, BestLines, best}
+use Rattle.model.specs.Answer.{Answer, accepted, refusal, refusal-answer, Outcome, fits, passes, well-formed, SizingLines, BestLines, best}
 use Rattle.model.specs.Layout.{increase-bytes, list-bytes, layout-answer, NoSavingRefused, GivesLayout, laid, AnswersLayout}
 use Rattle.model.proofs.Limited.{read-limits}
+use Rattle.model.proofs.Remainder.{remains-inside}
 use Rattle.blockfile.specs.Held.{GateArrays, WireArrays}
 use Rattle.loading.specs.Loads.{block-held, number-of, place-of}
 use Rattle.loading.specs.HeldFile.{HeldFile}
@@ -47,7 +44,7 @@ told (Excess o) = refl
 told (Loop g) = refl
 told (Ends g) = refl
 told (Room n) = refl
-told NotSeriesParallel = refl
+told (NotSeriesParallel g) = refl
 told Late = refl
 told (Widths g) = refl
 told PathLate = refl
@@ -69,9 +66,7 @@ loading-refused {lent = lent} x r ill e = rw (refused-leaves x r lent e) (passed
 
 -- THE LINES FROM 11 ON
 abbrev LayoutLines : Block → List ℕ → Outcome (List ℕ) → Type 0
-LayoutLines B lent =
-    Line lent 11 (At 0 (¬ (SeriesParallel B)))
-    (Line lent 12 (At 0 (SeriesParallel B × (spare B <ℤ pos 0))) (GivesLayout B lent))
+LayoutLines B lent = SizingLines B lent (GivesLayout B lent)
 
 -- a refusal has one value, an accepted answer of the best increases two
 refused-not-given : {A : Type 0} {s n : ℕ} {after other : List ℕ} (x : Refusal)
@@ -108,13 +103,13 @@ module _ {B : Block} {list after : List ℕ} where
   lines-refused x lent (passes none (fits p w e)) = passes none (fits p w (same-refusal x lent e))
   lines-refused x lent (passes none (passes early (best y sp b e))) = refused-not-given x e
 
-  -- the place of 11 and of 12 is 0
-  pub best-place : (x : Refusal) → BestLines B list (with-memory (refusal-answer x) after) → place-of x < 2 ^ 32
-  best-place x (fits p w e) =
+  -- the place of 11 is a gate, that of 12 is 0
+  refused-place : (x : Refusal) → BestLines B list (with-memory (refusal-answer x) after) → place-of x ≤ gate-count B
+  refused-place x (fits p w e) =
+      let is = ap (λ (o : Outcome (List ℕ)). getD (o .answer .values) 0 0) e in omega (arith, remains-inside (w .1 .holds))
+  refused-place x (passes none (fits p w e)) =
       let is = ap (λ (o : Outcome (List ℕ)). getD (o .answer .values) 0 0) e in omega (arith, w .0)
-  best-place x (passes none (fits p w e)) =
-      let is = ap (λ (o : Outcome (List ℕ)). getD (o .answer .values) 0 0) e in omega (arith, w .0)
-  best-place x (passes none (passes early (best y sp b e))) = refused-not-given x e
+  refused-place x (passes none (passes early (best y sp b e))) = refused-not-given x e
 
   lines-given : (n s k : ℕ) (lent : List ℕ) → gate-count B ≡ n
       → BestLines B list (with-memory (accepted (s ∷ k ∷ [])) after)
@@ -147,6 +142,9 @@ module _ {file : List ℕ} {n m arrival deadline activity : ℕ} {G : GateArrays
   with-room {lent} room lines =
       well-formed B (held .well)
       (passes (λ (p : ℕ) (s : (p ≡ increase-bytes * gate-count B) × (length lent < increase-bytes * gate-count B)). omega (arith, s .1, count)) lines)
+
+  pub best-place : {list after : List ℕ} (x : Refusal) → BestLines B list (with-memory (refusal-answer x) after) → place-of x < 2 ^ 32
+  best-place x lines = omega (arith, refused-place x lines, count, gates-most)
 
   -- 11 and 12, as the best increases are refused
   pub best-refused : {list after : List ℕ} (x : Refusal) (r : LayoutAnswer) (lent : List ℕ)

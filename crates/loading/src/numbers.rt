@@ -31,7 +31,7 @@ pub fn numbers_of(refusal: Refusal) -> Numbers
         Refusal::Loop { gate } => placed(8, gate),
         Refusal::Ends { gate } => placed(9, gate),
         Refusal::Room { needed } => placed(10, needed),
-        Refusal::NotSeriesParallel => placed(11, 0),
+        Refusal::NotSeriesParallel { gate } => placed(11, gate),
         Refusal::Late => placed(12, 0),
         Refusal::Widths { gate } => placed(13, gate),
         Refusal::PathLate => placed(14, 0),

@@ -13,7 +13,7 @@ use Rattle.model.specs.Block.{Block}
 use Rattle.model.specs.File.{Reading, found, refused}
 use Rattle.model.specs.Refusal.{OnLoop, EndFault, WellFormed, IllFormed, unread, loop, ends}
 use Rattle.model.specs.Layout.{GivesLayout, laid, AnswersLayout}
-use Rattle.model.specs.Answer.{Outcome, Line, fits, passes, At, Judged, ill-formed, well-formed, Gives, Slices, GivesCurve, curve, GivesBest, best, AnswersSlacks, AnswersJudge, AnswersCurve, AnswersBest}
+use Rattle.model.specs.Answer.{Outcome, Line, fits, passes, At, Judged, ill-formed, well-formed, Gives, NotSeriesParallelAt, Slices, GivesCurve, curve, GivesBest, best, SizingLines, AnswersSlacks, AnswersJudge, AnswersCurve, AnswersBest}
 use Rattle.model.proofs.Best.{best-unique}
 use Rattle.model.proofs.Curve.{curve-unique}
 
@@ -27,6 +27,9 @@ lowest-unique q r a b = by (compared q r)
 
 at-unique : {n : ℕ} {when : Type 0} (p q : ℕ) → At n when p → At n when q → p ≡ q
 at-unique p q a b = a .0 ∙ sym (b .0)
+
+pub eleven-unique : {B : Block} (p q : ℕ) → NotSeriesParallelAt B p → NotSeriesParallelAt B q → p ≡ q
+eleven-unique p q a b = lowest-unique p q (a .1) (b .1)
 
 same-block : {r : Reading Block} {B C : Block} {o p : ℕ} → r ≡ found B o → r ≡ found C p → B ≡ C
 same-block e q = cc
@@ -104,20 +107,21 @@ gives-curve-unique {B} o q (curve s a ps sp c e) (curve t b qs sq d f) =
 pub answers-curve-unique : (file : List ℕ) (lent : Slices) → Unique (AnswersCurve file lent)
 answers-curve-unique file lent =
     judged-unique
-    (λ (B : Block). line-unique at-unique (line-unique at-unique (line-unique at-unique gives-curve-unique)))
+    (λ (B : Block). line-unique at-unique (line-unique at-unique (line-unique eleven-unique gives-curve-unique)))
+
+sizing-unique : {S : Type 0} {B : Block} {lent : S} {given : Outcome S → Type 0} → Unique given → Unique (SizingLines B lent given)
+sizing-unique given = line-unique eleven-unique (line-unique at-unique given)
 
 gives-best-unique : {B : Block} {lent : List ℕ} → Unique (GivesBest B lent)
 gives-best-unique {B} o q (best x sp a e) (best y sq b f) = let same = best-unique B x y a b in cc
 
 pub answers-best-unique : (file lent : List ℕ) → Unique (AnswersBest file lent)
 answers-best-unique file lent =
-    judged-unique
-    (λ (B : Block). line-unique at-unique (line-unique at-unique (line-unique at-unique gives-best-unique)))
+    judged-unique (λ (B : Block). line-unique at-unique (sizing-unique gives-best-unique))
 
 gives-layout-unique : {B : Block} {lent : List ℕ} → Unique (GivesLayout B lent)
 gives-layout-unique {B} o q (laid x sp a e) (laid y sq b f) = let same = best-unique B x y a b in cc
 
 pub answers-layout-unique : (file lent : List ℕ) → Unique (AnswersLayout file lent)
 answers-layout-unique file lent =
-    judged-unique
-    (λ (B : Block). line-unique at-unique (line-unique at-unique (line-unique at-unique gives-layout-unique)))
+    judged-unique (λ (B : Block). line-unique at-unique (sizing-unique gives-layout-unique))

@@ -9,6 +9,7 @@ pub mod Turned
 pub mod Slack
 pub mod SameDelays
 pub mod Answer
+pub mod Remainder
 pub mod Fields
 pub mod Every
 pub mod Steps

@@ -22,6 +22,7 @@ use Rattle.model.specs.InTime.{slowed}
 use Rattle.model.specs.Best as BestList
 use Rattle.model.specs.Curve.{Pair, IsCurve}
 use Rattle.model.specs.Part.{SeriesParallel}
+use Rattle.model.specs.Remainder.{Remains}
 use Rattle.model.specs.Slack.{slack, spare}
 use Rattle.model.specs.Refusal.{WellFormed, IllFormed}
 
@@ -48,7 +49,7 @@ refusal-answer (Excess o) = refusal 7 o
 refusal-answer (Loop g) = refusal 8 g
 refusal-answer (Ends g) = refusal 9 g
 refusal-answer (Room n) = refusal 10 n
-refusal-answer NotSeriesParallel = refusal 11 0
+refusal-answer (NotSeriesParallel g) = refusal 11 g
 refusal-answer Late = refusal 12 0
 refusal-answer (Widths g) = refusal 13 g
 refusal-answer PathLate = refusal 14 0
@@ -100,6 +101,14 @@ Gives values after o = o ≡ record { answer = accepted values; memory = after }
 abbrev pub Shorter : {A : Type 0} → List A → ℕ → ℕ → Type 0
 Shorter lent needed = At needed (length lent < needed)
 
+-- 11: the block is not series-parallel, and p is "the lowest-numbered gate left other than 0 and n − 1" (document 02, K1)
+abbrev pub NotSeriesParallelAt : Block → ℕ → Type 0
+NotSeriesParallelAt B p = (¬ (SeriesParallel B)) × Lowest (Remains B) p
+
+-- 12: it is series-parallel, and spare is below 0; its place is 0
+abbrev pub LateAt : Block → ℕ → Type 0
+LateAt B = At 0 (SeriesParallel B × (spare B <ℤ pos 0))
+
 -- Slacks, to a lent slice of signed numbers: "for slacks only 1 to 10 occur".
 abbrev pub AnswersSlacks : List ℕ → List ℤ → Outcome (List ℤ) → Type 0
 AnswersSlacks file lent =
@@ -142,9 +151,9 @@ pub data GivesCurve (B : Block) (lent : Slices) (o : Outcome Slices) : Type 0 wh
       o
       → GivesCurve B lent o
 
--- the lines of the curve from 11 on, of a well-formed block: 11 is "not series-parallel"
+-- the lines of the curve from 11 on, of a well-formed block
 abbrev pub CurveLines : Block → Slices → Outcome Slices → Type 0
-CurveLines B lent = Line lent 11 (At 0 (¬ (SeriesParallel B))) (GivesCurve B lent)
+CurveLines B lent = Line lent 11 (NotSeriesParallelAt B) (GivesCurve B lent)
 
 -- The curve, to two lent slices of at least 512 elements each. The block's own deadline plays no part.
 abbrev pub AnswersCurve : List ℕ → Slices → Outcome Slices → Type 0
@@ -166,11 +175,12 @@ pub data GivesBest (B : Block) (lent : List ℕ) (o : Outcome (List ℕ)) : Type
       → Gives (saving B x ∷ gate-count B ∷ []) (over x lent) o
       → GivesBest B lent o
 
--- the lines of the best increases from 11 on, of a well-formed block: 11 is "not series-parallel", 12 is "late"
+-- the lines of the best increases from 11 on, of a well-formed block, whatever kind of slice they go to: "not series-parallel", "late", or what is given
+abbrev pub SizingLines : {S : Type 0} → Block → S → (Outcome S → Type 0) → Outcome S → Type 0
+SizingLines B lent given = Line lent 11 (NotSeriesParallelAt B) (Line lent 12 (LateAt B) given)
+
 abbrev pub BestLines : Block → List ℕ → Outcome (List ℕ) → Type 0
-BestLines B lent =
-    Line lent 11 (At 0 (¬ (SeriesParallel B)))
-    (Line lent 12 (At 0 (SeriesParallel B × (spare B <ℤ pos 0))) (GivesBest B lent))
+BestLines B lent = SizingLines B lent (GivesBest B lent)
 
 -- The best increases (demand 3).
 abbrev pub AnswersBest : List ℕ → List ℕ → Outcome (List ℕ) → Type 0

@@ -3,16 +3,13 @@ use mathlib.Core.Path.{_≡_}
 use mathlib.Core.Logic.{_≢_}
 use mathlib.Core.List.{List, [], _∷_, flatMap}
 use Prim.Native.Nat.{ℕ, zero, suc, _*_, _/_, _%_}
-use lib.IntN.{pos}
-use lib.Signed.{_<ℤ_}
 use Rattle.lists.specs.Over.{over}
 use Rattle.model.specs.Block.{Block, gate-count}
 use Rattle.model.specs.Gain.{saving}
 use Rattle.model.specs.Best.{Best}
 use Rattle.model.specs.Part.{SeriesParallel}
-use Rattle.model.specs.Slack.{spare}
 use Rattle.model.specs.Field.{byte-values}
-use Rattle.model.specs.Answer.{Answer, accepted, refusal, Outcome, Line, At, Judged, Gives, Shorter}
+use Rattle.model.specs.Answer.{Answer, accepted, refusal, Outcome, Line, Judged, Gives, Shorter, SizingLines}
 
 -- bytes of an increase
 abbrev pub increase-bytes : ℕ
@@ -52,6 +49,4 @@ abbrev pub AnswersLayout : List ℕ → List ℕ → Outcome (List ℕ) → Type
 AnswersLayout file lent =
     Judged file lent
     (λ (B : Block).
-    Line lent 10 (Shorter lent (increase-bytes * gate-count B))
-    (Line lent 11 (At 0 (¬ (SeriesParallel B)))
-    (Line lent 12 (At 0 (SeriesParallel B × (spare B <ℤ pos 0))) (GivesLayout B lent))))
+    Line lent 10 (Shorter lent (increase-bytes * gate-count B)) (SizingLines B lent (GivesLayout B lent)))

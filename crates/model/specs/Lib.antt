@@ -8,6 +8,7 @@ pub mod Ties
 pub mod Best
 pub mod Curve
 pub mod Part
+pub mod Remainder
 pub mod Slack
 pub mod Netlist
 pub mod Field

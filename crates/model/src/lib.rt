@@ -25,8 +25,8 @@ pub enum Refusal {
     Ends { gate: usize },
     // 10: a lent slice is too short; the elements needed.
     Room { needed: usize },
-    // 11: the block is not series-parallel.
-    NotSeriesParallel,
+    // 11: the block is not series-parallel; the lowest gate left, other than the first and the last, when gates with one wire in and one out are taken away and doubled wires merged.
+    NotSeriesParallel { gate: usize },
     // 12: it is, and spare is below 0.
     Late,
     // 13: an increase exceeds its gate's widths; the lowest such gate.

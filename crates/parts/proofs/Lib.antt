@@ -4,8 +4,10 @@ pub mod Clearing
 pub mod State
 pub mod Steps
 pub mod Start
+pub mod Remainder
 pub mod Verdict
 pub mod Nodes
 pub mod Search
 pub mod Reduce
+pub mod Remains
 pub mod Ascending

@@ -214,23 +214,20 @@ count-bound zero S = omega arith
 count-bound (suc n) S = omega (arith, bit-le (S n .live) true (λ e. refl), count-bound n S)
 
 -- What is left of a network is a state of the reduction, in which no gate but the two ends can go.
-pub left-reduced : {B : Block} → Network B → Reducing (Joined (B .wires)) (slots (remainder B)) × ((m : ℕ) → m < gate-count B → m ≢ first B → m ≢ last B → OneIn (slots (remainder B)) m → OneOut (slots (remainder B)) m → ⊥)
+pub left-reduced : {B : Block} → Network B → Reducing (Joined (B .wires)) (slots (remainder B)) × Finished (slots (remainder B)) (first B) (last B)
 unfolding remainder
-left-reduced {B} n = reduces (loop-free n) (length (B .wires)) (first B) (last B) (gate-count B) (length (B .wires)) (wire-slots (B .wires)) (start n) (initial-live (B .wires)) (count-bound (length (B .wires)) (initial (B .wires)))
+left-reduced {B} n = (end .0, λ m d e i o. end .1 m (one-in-below n (end .0) i) d e i o)
+  where
+    end : Reducing (Joined (B .wires)) (slots (remainder B)) × ((m : ℕ) → m < gate-count B → m ≢ first B → m ≢ last B → OneIn (slots (remainder B)) m → OneOut (slots (remainder B)) m → ⊥)
+    end = reduces (loop-free n) (length (B .wires)) (first B) (last B) (gate-count B) (length (B .wires)) (wire-slots (B .wires)) (start n) (initial-live (B .wires)) (count-bound (length (B .wires)) (initial (B .wires)))
 
 -- The computing reduction's verdict is the definition's.
 pub reducible-verdict : {B : Block} → Network B → (reducible B ≡ true) ↔ SeriesParallel B
 unfolding reducible
 reducible-verdict {B} n = (λ h. both .0 (there (or-iff _ _ .0 h)), λ p. or-iff _ _ .1 (back (both .1 p)))
   where
-    end : Reducing (Joined (B .wires)) (slots (remainder B)) × ((m : ℕ) → m < gate-count B → m ≢ first B → m ≢ last B → OneIn (slots (remainder B)) m → OneOut (slots (remainder B)) m → ⊥)
-    end = left-reduced n
-
-    finished : Finished (slots (remainder B)) (first B) (last B)
-    finished m d e i o = end .1 m (one-in-below n (end .0) i) d e i o
-
     both : ((gate-count B ≡ 1) ⊎ Only (λ i. Live (slots (remainder B) i))) ↔ SeriesParallel B
-    both = answer n (end .0) finished
+    both = answer n (left-reduced n .0) (left-reduced n .1)
 
     left-iff : (is-some (sole (λ i. slots (remainder B) i .live) (length (remainder B))) ≡ true) ↔ Only (λ i. Live (slots (remainder B) i))
     left-iff = sole-only (λ i. slots (remainder B) i .live) (length (remainder B)) (λ i. Live (slots (remainder B) i)) (λ i. (λ h. h, λ h. h)) (live-inside (remainder B))

@@ -45,7 +45,7 @@ module _ {E : ℕ → ℕ → Type 0} {R : List ℕ} {S : ℕ → Slot} (r : Red
           (wire-ends (S j .shape) (S j .source) (S j .target) c d h .0)
 
   -- a gate of a wire of a slot's part that is left is the slot's own end
-  meets-end : {i : ℕ} (c d : ℕ) → Live (S i) → Carries (S i) c d → (Left R c → S i .source ≡ c) × (Left R d → S i .target ≡ d)
+  pub meets-end : {i : ℕ} (c d : ℕ) → Live (S i) → Carries (S i) c d → (Left R c → S i .source ≡ c) × (Left R d → S i .target ≡ d)
   meets-end {i} c d l h =
       let f = r .fits i l in
       let e = wire-ends (S i .shape) (S i .source) (S i .target) c d h in

@@ -1,5 +1,5 @@
 -- Both directions in one theorem (`verdict`): when no gate but the first and the last can go, exactly one slot is live if and only if the block is series-parallel; and then that slot's part is the whole block (`whole`). A lone gate is series-parallel as it stands (`lone-gate`).
--- Soundness: the part of the one slot has all wires, so no wire enters its source and none leaves its target: these are the first gate and the last. Completeness: every order of takings has taken all gates inside the whole part, so each slot leads from its first gate to its last, and no two slots join the same gates. Assumes nothing.
+-- Soundness: the part of the one slot has all wires, so no wire enters its source and none leaves its target: these are the first gate and the last. Completeness: every order of takings has taken all gates inside the whole part, so each slot leads to its last gate, and then from its first (`one-slot`), and no two slots join the same gates. Assumes nothing.
 use mathlib.Core.Path.{_≡_, refl, sym, _∙_, subst, subst₂}
 use mathlib.Core.Logic.{_≢_, _⊎_, inl, inr, _↔_, ⊎-elim}
 use mathlib.Core.List.{List, [], _∷_, List·Memᴰ, List·Memᴰ·head}
@@ -9,13 +9,13 @@ use native.Mathlib.Omega.{arith}
 use Rattle.model.specs.Block.{Wire, Block, gate-count, first, last, Joined}
 use Rattle.model.specs.Part.{Shape, Inside, HasGate, HasWire, Part, Whole, SeriesParallel, lone, built}
 use Rattle.model.specs.Path.{step}
-use Rattle.parts.specs.Reduction.{Thru, direct, through, Only, Stuck}
+use Rattle.parts.specs.Reduction.{Thru, direct, through, Only, Left, Stuck}
 use Rattle.parts.specs.Slots.{Slot, Live, Carries, OneIn, Finished}
 use Rattle.parts.specs.Network.{Network}
 use Rattle.parts.proofs.Gates.{wire-ends, wire-gates, enters-none, leaves-none, wire-out, wire-in}
 use Rattle.parts.proofs.Clearing.{inside-taken}
 use Rattle.parts.specs.Invariant.{Fits, Reducing}
-use Rattle.parts.proofs.State.{slots-removable}
+use Rattle.parts.proofs.State.{meets-end, slots-removable}
 
 -- a wire left begins with a wire and ends with a wire
 thru-wires : {E : ℕ → ℕ → Type 0} {R : List ℕ} {a b : ℕ} → Thru E R a b → ((y : ℕ) × E a y) × ((x : ℕ) × E x b)
@@ -83,22 +83,41 @@ module _ {B : Block} {S : ℕ → Slot} (n : Network B) (r : Reducing (Joined (B
         all-gates g h (yes e) = inl e
         all-gates g h (no d) = let (x, w) = n .wire-into g h d in wire-gates (S (o .value) .shape) (first B) (last B) x g (only-wires x g .0 w) .1
 
+  -- A gate that is left, other than the first, has a slot in.
+  pub left-led : {g : ℕ} → g < gate-count B → g ≢ first B → Left (r .taken) g → (i : ℕ) × Live (S i) × (S i .target ≡ g)
+  left-led {g} below d left =
+      let (x, w) = n .wire-into g below d in
+      let (i, l, h) = r .reduced .covered x g w in
+      (i, l, meets-end (r .reduced) x g l h .1 left)
+
+  -- Where every slot leads to the last gate, only one is live: each leads from the first, since a gate left in between would have a slot in.
+  pub one-slot : gate-count B ≢ 1 → ((i : ℕ) → Live (S i) → S i .target ≡ last B) → Only (λ i. Live (S i))
+  one-slot d to-last =
+      let (y, w) = n .wire-from (first B) (n .some-gate) (λ e. d (omega (arith, n .some-gate, e))) in
+      let (i, l, h) = r .reduced .covered (first B) y w in
+      alone i l
+    where
+      from-first : (j : ℕ) → Live (S j) → S j .source ≡ first B
+      from-first j l = go (ℕ-discrete (S j .source) (first B))
+        where
+          go : Dec (S j .source ≡ first B) → S j .source ≡ first B
+          go (yes e) = e
+          go (no k) =
+              let t = r .reduced .fits j l in
+              let (y, h) = wire-out (S j .shape) (S j .source) (S j .target) in
+              let w = t .wires (S j .source) y h in
+              let (i, m, e) = left-led (n .below (S j .source) y w .0) k (t .source-left) in
+              absurd (n .last-none y (subst (λ g. Joined (B .wires) g y) (sym e ∙ to-last i m) w))
+
+      alone : (i : ℕ) → Live (S i) → Only (λ i. Live (S i))
+      alone i l = record { value = i; holds = l; alone = λ j m. r .single j i m l (from-first j m ∙ sym (from-first i l)) (to-last j m ∙ sym (to-last i l)) }
+
   -- Completeness: if the whole block is a part, only one slot is live.
-  only-slot : Finished S (first B) (last B) → (P : Shape) → Whole B P → Only (λ i. Live (S i))
-  only-slot f P w =
-      let (y, h) = wire-out P (first B) (last B) in
-      let (i, l, k) = r .reduced .covered (first B) y (w .wires (first B) y .1 h) in
-      record { value = i; holds = l; alone = λ j m. r .single j i m l (from-first j m ∙ sym (from-first i l)) (to-last j m ∙ sym (to-last i l)) }
+  only-slot : gate-count B ≢ 1 → Finished S (first B) (last B) → (P : Shape) → Whole B P → Only (λ i. Live (S i))
+  only-slot d f P w = one-slot d to-last
     where
       gone : (g : ℕ) → Inside P g → List·Memᴰ g (r .taken)
       gone = inside-taken P (first B) (last B) (w .part) (w .wires) (r .order) (finished-stuck f)
-
-      from-first : (j : ℕ) → Live (S j) → S j .source ≡ first B
-      from-first j l =
-          let t = r .reduced .fits j l in
-          let (y, h) = wire-out (S j .shape) (S j .source) (S j .target) in
-          ⊎-elim (λ e. e) (λ k. absurd (t .source-left (gone _ k)))
-          (wire-ends P (first B) (last B) (S j .source) y (w .wires (S j .source) y .0 (t .wires (S j .source) y h)) .0)
 
       to-last : (j : ℕ) → Live (S j) → S j .target ≡ last B
       to-last j l =
@@ -113,7 +132,7 @@ module _ {B : Block} {S : ℕ → Slot} (n : Network B) (r : Reducing (Joined (B
     where
       back : SeriesParallel B → Only (λ i. Live (S i))
       back (lone e w) = absurd (d e)
-      back (built P w) = only-slot f P w
+      back (built P w) = only-slot d f P w
 
 -- A network of one gate has no wire, and is series-parallel.
 pub lone-gate : {B : Block} → Network B → gate-count B ≡ 1 → SeriesParallel B

@@ -5,6 +5,7 @@ use mathlib.Core.List.{List}
 use Prim.Native.Nat.{ℕ, zero, suc}
 use lib.Dec.{eqb}
 use lib.ListN.{length, set}
+use Rattle.lists.specs.Search.{lesser}
 use Rattle.model.specs.Block.{Block, gate-count, first, last}
 use Rattle.model.specs.Part.{Shape, series, parallel}
 use Rattle.parts.specs.Slots.{Slot, slot, empty, slots, wire-slots}
@@ -77,3 +78,12 @@ remainder B = reduce (length (B .wires)) (first B) (last B) (gate-count B) (wire
 -- the verdict: one gate, or one slot left
 unfoldable pub reducible : Block → Bool
 reducible B = eqb (gate-count B) 1 || is-some (sole (λ i. slots (remainder B) i .live) (length (remainder B)))
+
+-- the lowest gate to which a live one of the first k slots leads, or b where none leads to a lower one
+unfoldable pub lowest-led : ℕ → ℕ → (ℕ → Slot) → ℕ
+lowest-led zero b S = b
+lowest-led (suc k) b S = lesser (S k .live) (S k .target) (lowest-led k b S)
+
+-- the lowest gate left, where the block is not series-parallel
+unfoldable pub gate-left : Block → ℕ
+gate-left B = lowest-led (length (remainder B)) (last B) (slots (remainder B))

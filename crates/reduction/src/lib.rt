@@ -76,5 +76,5 @@ pub fn reduce_network(
         0,
         n - 1,
     );
-    pick(live, top, k, nodes)
+    pick(live, target, top, k, nodes, n - 1)
 }

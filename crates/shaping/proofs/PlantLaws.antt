@@ -1,4 +1,4 @@
--- The tree of a block planted: the block's wires may be reduced (`reducible`), the tree that the reduction finds may be planted (`root-asked`), and what is planted is the block's tree (`unfit-planted`, `lone-planted`, `root-planted`).
+-- The tree of a block planted: the block's wires may be reduced (`reducible`), the tree that the reduction finds may be planted (`root-asked`), and what is planted is the block's tree (`lone-planted`, `root-planted`).
 -- Assumes nothing.
 use mathlib.Core.Path.{_≡_, refl, sym, _∙_, ap}
 use mathlib.Core.List.{List}
@@ -16,12 +16,14 @@ use Rattle.parts.proofs.Gates.{part-ends}
 use Rattle.reduction.specs.Wired.{Given as Reducible}
 use Rattle.optimum.specs.BlockTree.{block-tree, lone-tree}
 use Rattle.planting.specs.Copy.{nodes-of, max-reduced, planted-in, max-nodes, Readable, Room}
-use Rattle.planting.specs.Planted.{as-tree, whole, lone, Planted}
+use Rattle.planting.specs.Planted.{as-tree, whole, lone}
+use Rattle.planting.specs.Planted as Planting
 use Rattle.planting.specs.TreeWords.{tree-words, plot-of, nodes-held}
 use Rattle.planting.proofs.Agreeing.{rooted-readable}
 use Rattle.planting.proofs.Writing.{there-is-room}
 use Rattle.planting.proofs.Wires.{few-nodes}
 use Rattle.planting.proofs.Trees.{whole-converted}
+use Rattle.shaping.specs.declared.plant.TreeAnswer.the-variants.{Planted}
 use Rattle.shaping.specs.PlantedBlock.{Given, PlantedOrNot}
 use Rattle.shaping.proofs.Facts.{network, no-wire-twice}
 
@@ -58,38 +60,25 @@ module _ {B : Block} {n m : ℕ} {sources targets wire-delays : List ℕ} (given
   root-asked {T} {t} tree r full long a b =
       (rooted-readable r full, few-room tree long (nodes-of (whole a (tree-of T t) b)) (root-few r a b))
 
-  -- What is planted is the block's tree, or there is none.
-  pub unfit-planted : {tree : List ℕ} → ¬ (SeriesParallel B) → PlantedOrNot B 0 tree tree
-  unfit-planted unfit = record { none = λ e. unfit; kept = λ e. refl; tree = λ some. absurd (omega arith) }
-
-  pub lone-planted : (before words : List ℕ) {c : ℕ} → (gate-count B ≡ 1) × SeriesParallel B → c ≡ 3 → Planted (lone 0) c (plot-of words) → plot-of words ≡ planted-in (lone 0) (plot-of before) → nodes-held words ≡ c → PlantedOrNot B c before words
+  -- What is planted is the block's tree.
+  pub lone-planted : (before words : List ℕ) {c : ℕ} → (gate-count B ≡ 1) × SeriesParallel B → c ≡ 3 → Planting.Planted (lone 0) c (plot-of words) → plot-of words ≡ planted-in (lone 0) (plot-of before) → nodes-held words ≡ c → PlantedOrNot B (Planted c) before words
   lone-planted before words (single, fits) count planted written held =
-      record {
-        none = λ e. absurd (omega arith);
-        kept = λ e. absurd (omega arith);
-        tree = λ some.
-            record { fits = fits; tree = lone 0; is-tree = sym (lone-case single fits); planted = planted; written = written; held = held; some = some; few = omega arith };
-      }
+      record { fits = fits; tree = lone 0; is-tree = sym (lone-case single fits); planted = planted; written = written; held = held; some = omega arith; few = omega arith }
 
   root-is-tree : {T : Nodes} {t k : ℕ} (r : Rooted B T t k) → as-tree (whole 0 (tree-of T t) (n - 1)) ≡ block-tree B (built _ (r .whole))
   root-is-tree {T} {t} r =
       ap (λ b. as-tree (whole 0 (tree-of T t) (b - 1))) (sym (given .wired .gates))
       ∙ whole-converted B (no-wire-twice B (given .limits) (given .sound)) (tree-of T t) (r .weighed)
 
-  pub root-planted : {T : Nodes} {t k : ℕ} (before words : List ℕ) {c : ℕ} → Rooted B T t k → c ≡ nodes-of (whole 0 (tree-of T t) (n - 1)) → Planted (whole 0 (tree-of T t) (n - 1)) c (plot-of words) → plot-of words ≡ planted-in (whole 0 (tree-of T t) (n - 1)) (plot-of before) → nodes-held words ≡ c → PlantedOrNot B c before words
+  pub root-planted : {T : Nodes} {t k : ℕ} (before words : List ℕ) {c : ℕ} → Rooted B T t k → c ≡ nodes-of (whole 0 (tree-of T t) (n - 1)) → Planting.Planted (whole 0 (tree-of T t) (n - 1)) c (plot-of words) → plot-of words ≡ planted-in (whole 0 (tree-of T t) (n - 1)) (plot-of before) → nodes-held words ≡ c → PlantedOrNot B (Planted c) before words
   root-planted {T} {t} before words r count planted written held =
       record {
-        none = λ e. absurd (omega arith);
-        kept = λ e. absurd (omega arith);
-        tree = λ some.
-            record {
-              fits = built _ (r .whole);
-              tree = whole 0 (tree-of T t) (n - 1);
-              is-tree = root-is-tree r;
-              planted = planted;
-              written = written;
-              held = held;
-              some = some;
-              few = omega (arith, root-few r 0 (n - 1));
-            };
+        fits = built _ (r .whole);
+        tree = whole 0 (tree-of T t) (n - 1);
+        is-tree = root-is-tree r;
+        planted = planted;
+        written = written;
+        held = held;
+        some = omega arith;
+        few = omega (arith, root-few r 0 (n - 1));
       }

@@ -13,7 +13,13 @@ ghost use Rattle.model.specs.Block.{Block};
 ghost use Rattle.planting.specs.TreeWords.{tree-words};
 ghost use Rattle.shaping.specs.PlantedBlock.{Given, WiresLong, PlantedOrNot};
 
-// The tree of a block of n gates and m wires, which stand in the arrays, planted in the words of a tree. Answers the number of nodes, whose last is the top; 0 where the block is not series-parallel. Nodes beyond are as before.
+// The tree of a block is planted, and the last of its nodes is the top; or the block is not series-parallel, and the gate is the lowest left other than the first and the last.
+pub enum TreeAnswer {
+    Planted { nodes: usize },
+    NotSeriesParallel { gate: usize },
+}
+
+// The tree of a block of n gates and m wires, which stand in the arrays, planted in the words of a tree. Nodes beyond are as before, and so are all words where the block is not series-parallel.
 // Public for the crates above only: they have shown that the wires are those of a sound network.
 pub fn plant_block(
     n: usize,
@@ -22,7 +28,7 @@ pub fn plant_block(
     targets: &[u32],
     wire_delays: &[u32],
     tree: &mut TreeWords,
-) -> usize
+) -> TreeAnswer
     requires { ⌜ ((B : Block) × Given B n m (now sources) (now targets) (now «wire_delays»)) ⌝ }
     requires { ⌜ WiresLong m (now sources) (now targets) (now «wire_delays») ⌝ }
     requires { ⌜ tree-words ≤ length (now tree) ⌝ }
@@ -54,8 +60,12 @@ pub fn plant_block(
         n,
     );
     match answer {
-        Answer::Unfit => 0,
-        Answer::Lone => plant_lone(0, tree),
-        Answer::Root(root, _) => plant(root, 0, (n - 1) as u32, &kind, &left, &gate, &right, tree),
+        Answer::Unfit(lowest) => TreeAnswer::NotSeriesParallel { gate: lowest },
+        Answer::Lone => TreeAnswer::Planted {
+            nodes: plant_lone(0, tree),
+        },
+        Answer::Root(root, _) => TreeAnswer::Planted {
+            nodes: plant(root, 0, (n - 1) as u32, &kind, &left, &gate, &right, tree),
+        },
     }
 }

@@ -1,11 +1,16 @@
--- The searches for the only live slot. Assumes nothing.
-use mathlib.Core.Path.{_≡_, sym, _∙_, subst}
+-- The searches for the only live slot and for the lowest gate to which a live slot leads. Assumes nothing.
+use mathlib.Core.Path.{_≡_, refl, sym, _∙_, subst}
+use mathlib.Core.Bool.{Bool, true, false}
 use mathlib.Core.List.{List}
 use Prim.Native.Nat.{ℕ, _+_, _≤_, _<_}
 use native.Mathlib.Decide.{ℕ-discrete, decLt}
 use native.Mathlib.Omega.{arith}
+use borrow.Author.Tests.{eqb-true, eqb-false, eq-eqb, ne-eqb, lt-ltb, le-ltb}
+use lib.Dec.{eqb}
 use lib.ListN.{getD}
-use Rattle.slots.specs.Sought.{LiveFrom, OnlyLive}
+use Rattle.lists.specs.Search.{lesser, Says}
+use Rattle.lists.proofs.Search.{least-more}
+use Rattle.slots.specs.Sought.{LiveFrom, OnlyLive, LowestLed}
 
 -- no slot from s on and below i is live
 abbrev pub NoneFrom : List ℕ → ℕ → ℕ → Type 0
@@ -58,3 +63,25 @@ only-two lives k i j f n g m =
       only = λ l. absurd (omega arith);
       not-one = λ z q l v p. let e : i ≡ j = p i li (f .holds li) ∙ sym (p j lj (g .holds lj)) in omega arith;
     }
+
+-- the lesser of g and the gate of a slot, by what is known of the slot
+pub dead-kept : (l v g : ℕ) → ¬ (l ≡ 1) → g ≡ lesser (eqb l 1) v g
+unfolding lesser
+dead-kept l v g n = rw (ne-eqb l 1 n)
+
+pub live-lower : (l v g : ℕ) → l ≡ 1 → v < g → v ≡ lesser (eqb l 1) v g
+unfolding lesser
+live-lower l v g e h = rw (eq-eqb l 1 e, lt-ltb v g h)
+
+pub live-kept : (l v g : ℕ) → l ≡ 1 → ¬ (v < g) → g ≡ lesser (eqb l 1) v g
+unfolding lesser
+live-kept l v g e h = rw (eq-eqb l 1 e, le-ltb v g (omega arith))
+
+-- one slot more
+pub led-more : (lives tos : List ℕ) (k b g r : ℕ) → LowestLed lives tos k b g → r ≡ lesser (eqb (getD lives k 0) 1) (getD tos k 0) g → LowestLed lives tos (k + 1) b r
+led-more lives tos k b g r l e =
+    subst (LowestLed lives tos (k + 1) b) (sym e) (least-more l (omega arith) (eqb (getD lives k 0) 1) (one-says (eqb (getD lives k 0) 1) refl))
+  where
+    one-says : (t : Bool) → eqb (getD lives k 0) 1 ≡ t → Says (getD lives k 0 ≡ 1) t
+    one-says true q = eqb-true (getD lives k 0) 1 q
+    one-says false q = eqb-false (getD lives k 0) 1 q

@@ -3,6 +3,7 @@ use mathlib.Core.Path.{_≡_}
 use mathlib.Core.List.{List}
 use Prim.Native.Nat.{ℕ, _≤_, _<_}
 use lib.ListN.{getD}
+use Rattle.lists.specs.Search.{Least}
 
 -- r is a number below n with the property, or n where there is none
 pub record Found (P : ℕ → Type 0) (n r : ℕ) : Type 0 where
@@ -29,3 +30,7 @@ pub record OnlyLive (lives : List ℕ) (k r : ℕ) : Type 0 where
   pub live : r < k → getD lives r 0 ≡ 1
   pub only : r < k → (q : ℕ) → q < k → getD lives q 0 ≡ 1 → q ≡ r
   pub not-one : r ≡ k → (q : ℕ) → q < k → getD lives q 0 ≡ 1 → ((p : ℕ) → p < k → getD lives p 0 ≡ 1 → p ≡ q) → ⊥
+
+-- g is the lowest gate to which a live one of k slots leads, or b where none leads to a lower one
+abbrev pub LowestLed : List ℕ → List ℕ → ℕ → ℕ → ℕ → Type 0
+LowestLed lives tos k = Least k (λ i. getD lives i 0 ≡ 1) (λ i. getD tos i 0)

@@ -4,9 +4,9 @@ pub mod finish;
 pub mod node;
 pub mod table;
 
-// The root of the tree and the number of nodes; one gate without a wire; or not series-parallel.
+// The root of the tree and the number of nodes; one gate without a wire; or not series-parallel, with the lowest gate left other than the first and the last.
 pub enum Answer {
     Root(usize, usize),
     Lone,
-    Unfit,
+    Unfit(usize),
 }

@@ -5,6 +5,7 @@ use mathlib.Core.Bool.{true}
 use mathlib.Core.List.{flatMap}
 use Rattle.lists.specs.Over.{build, over}
 use Rattle.lists.specs.Sum.{sum, total}
+use Rattle.lists.specs.Search.{lesser}
 use Rattle.model.specs.Activity.{activity}
 use Rattle.model.specs.Field.{field-at}
 use Rattle.model.specs.File.{steps-in, every, some, falls, falls-below, fault, read-field, read-gates, read-wires, decode, read-block, encode}
@@ -15,7 +16,7 @@ use Rattle.optimum.specs.Gates.{room, gate-head}
 use Rattle.optimum.specs.Runs.{runs-list, onto, joined}
 use Rattle.optimum.specs.BlockTree.{wire-delay, step-count}
 use Rattle.parts.specs.Slots.{wire-slots}
-use Rattle.parts.specs.Reduce.{find, sole, slot-in, slot-out, slot-between, goes, taken-away, reduce, remainder}
+use Rattle.parts.specs.Reduce.{find, sole, slot-in, slot-out, slot-between, goes, taken-away, reduce, remainder, lowest-led, gate-left}
 use Rattle.parts.specs.Ascending.{some-below, every-below, ascending}
 use Rattle.worked.specs.Call.{Row, file-of, Every}
 use Rattle.worked.specs.Computed.{tree, lowest, computed, rises}
@@ -26,5 +27,5 @@ abbrev pub Computes : Row → Type 0
 Computes r = (rises (read-block (file-of (r .call))) ≡ true) × (computed (r .call) ≡ r .expected)
 
 pub rows-compute : Every Computes table
-unfolding table build over sum total activity field-at steps-in every some falls falls-below fault read-field read-gates read-wires decode read-block encode flatMap drop-of input-activity gain saving latest-in source-by start leads turn beside room gate-head runs-list onto joined wire-delay step-count wire-slots find sole slot-in slot-out slot-between goes taken-away reduce remainder some-below every-below ascending tree lowest
+unfolding table build over sum total activity field-at steps-in every some falls falls-below fault read-field read-gates read-wires decode read-block encode flatMap drop-of input-activity gain saving latest-in source-by start leads turn beside room gate-head runs-list onto joined wire-delay step-count wire-slots find sole slot-in slot-out slot-between goes taken-away reduce remainder lowest-led lesser gate-left some-below every-below ascending tree lowest
 rows-compute = ((refl, refl), ((refl, refl), ((refl, refl), ((refl, refl), ((refl, refl), ((refl, refl), ((refl, refl), ((refl, refl), ((refl, refl), ((refl, refl), ((refl, refl), ((refl, refl), ((refl, refl), ((refl, refl), ((refl, refl), ((refl, refl), ((refl, refl), ((refl, refl), ((refl, refl), ((refl, refl), tt))))))))))))))))))))

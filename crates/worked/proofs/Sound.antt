@@ -33,7 +33,9 @@ use Rattle.optimum.proofs.Within.{start-is-start}
 use Rattle.optimum.proofs.Optimum as Optimum
 use Rattle.parts.specs.Network.{Network}
 use Rattle.parts.specs.Ascending.{ascending}
+use Rattle.parts.specs.Reduce.{gate-left}
 use Rattle.parts.proofs.Ascending.{ascending-network}
+use Rattle.parts.proofs.Remains.{gate-left-lowest}
 use Rattle.worked.specs.Call.{Call, find-slacks, judge-list, find-curve, find-best, file-of, Allows}
 use Rattle.worked.specs.Computed.{tree, lowest, slacks-of, time-under, judged, exceeds, judge-of, curve-by, curve-of, increases-by, best-by, best-of, by-reading, computed, rises}
 use Rattle.worked.proofs.Tree.{Found, tree-found}
@@ -94,15 +96,15 @@ module _ (file : List ℕ) (B : Block) (end : ℕ) (reads : read-block file ≡ 
 
   best-line : (lent : List ℕ) (r : Option Tree) → Found B r
       → BestLines B lent (best-by B lent r)
-  best-line lent none f = fits 0 (refl, f) refl
+  best-line lent none f = fits (gate-left B) (f, gate-left-lowest network f) refl
   best-line lent (some t) (s, e) =
-      passes (λ p n. n .1 s) (line-by _ _ (late s _ refl) (λ l. best (increases-by B t) s (best-list t s e l) refl))
+      passes (λ p n. n .0 s) (line-by _ _ (late s _ refl) (λ l. best (increases-by B t) s (best-list t s e l) refl))
 
   curve-line : (lent : Slices) (r : Option Tree) → Found B r
       → CurveLines B lent (curve-by B lent r)
-  curve-line lent none f = fits 0 (refl, f) refl
+  curve-line lent none f = fits (gate-left B) (f, gate-left-lowest network f) refl
   curve-line lent (some t) (s, e) =
-      passes (λ p n. n .1 s)
+      passes (λ p n. n .0 s)
       (curve (start-of B t) (saving B (increases B t 0)) (pairs-of B t) s
       (subst (λ u. IsCurve B (start-of B u) (saving B (increases B u 0)) (pairs-of B u)) e (Optimum.curve B s (network .below) falls))
       refl)

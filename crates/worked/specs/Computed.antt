@@ -19,7 +19,7 @@ use Rattle.model.specs.Answer.{Outcome, refusal, accepted, Slices}
 use Rattle.optimum.specs.Tree.{Tree}
 use Rattle.optimum.specs.BlockTree.{whole-tree, lone-tree, start-of, increases, pairs-of}
 use Rattle.parts.specs.Slots.{slots}
-use Rattle.parts.specs.Reduce.{sole, remainder}
+use Rattle.parts.specs.Reduce.{sole, remainder, gate-left}
 use Rattle.parts.specs.Ascending.{ascending}
 use Rattle.worked.specs.Call.{Call, find-slacks, judge-list, find-curve, find-best, Memory}
 
@@ -75,7 +75,7 @@ judge-of B lent =
 
 -- the curve by the block's tree
 abbrev pub curve-by : Block → Slices → Option Tree → Outcome Slices
-curve-by B lent none = refuses 11 0 lent
+curve-by B lent none = refuses 11 (gate-left B) lent
 curve-by B lent (some t) =
     gives (start-of B t ∷ saving B (increases B t 0) ∷ length (pairs-of B t) ∷ [])
     (record {
@@ -93,7 +93,7 @@ abbrev pub increases-by : Block → Tree → List ℕ
 increases-by B t = increases B t (B .deadline - B .arrival - start-of B t)
 
 abbrev pub best-by : Block → List ℕ → Option Tree → Outcome (List ℕ)
-best-by B lent none = refuses 11 0 lent
+best-by B lent none = refuses 11 (gate-left B) lent
 best-by B lent (some t) =
     cond (ltb (B .deadline) (B .arrival + start B)) (refuses 12 0 lent)
     (gives (saving B (increases-by B t) ∷ gate-count B ∷ []) (over (increases-by B t) lent))

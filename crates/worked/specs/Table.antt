@@ -108,9 +108,9 @@ table =
     -- "chain of two, delays 1, steps (4,3) each: deadline 5 gives 0 3; 8 gives 2 4"
     ∷ record { call = find-best (chain-of-two 5) (nines 3); expected = gives (9 * U ∷ 2 ∷ []) (0 ∷ 3 ∷ 9 ∷ []) }
     ∷ record { call = find-best (chain-of-two 8) (nines 3); expected = gives (18 * U ∷ 2 ∷ []) (2 ∷ 4 ∷ 9 ∷ []) }
-    -- "wires 0-1, 0-2, 1-2, 1-3, 2-3: 11", whether the curve or the best increases are asked for
-    ∷ record { call = find-best bridge (nines 5); expected = refuses 11 0 (nines 5) }
-    ∷ record { call = find-curve bridge (nine-slices 513); expected = refuses 11 0 (nine-slices 513) }
+    -- "wires 0-1, 0-2, 1-2, 1-3, 2-3: 11", whether the curve or the best increases are asked for; "the bridge case in document 01 now gives 11 with 1" (document 02, K1)
+    ∷ record { call = find-best bridge (nines 5); expected = refuses 11 1 (nines 5) }
+    ∷ record { call = find-curve bridge (nine-slices 513); expected = refuses 11 1 (nine-slices 513) }
     -- "Wires 0-1, 1-2, 0-2: series-parallel", so that both are given
     ∷ record { call = find-best triangle (nines 4); expected = gives (0 ∷ 3 ∷ []) (0 ∷ 0 ∷ 0 ∷ 9 ∷ []) }
     ∷ record { call = find-curve triangle (nine-slices 513); expected = gives (3 ∷ 0 ∷ 0 ∷ []) (nine-slices 513) }

@@ -7,7 +7,7 @@ mod ffi;
 mod pages;
 
 use pages::Pages;
-use reference::compare::{compare, Answer};
+use reference::compare::{compare, elevens, Answer};
 use std::process::exit;
 use std::time::SystemTime;
 
@@ -35,6 +35,7 @@ fn run(files: usize, seed: u64) {
                 "compare: seed {seed}: {} files twice, of the second run {sized} sized, {refused} refused",
                 compared.files
             );
+            println!("compare: seed {seed}: of the second run's random files {}", elevens(&compared.places));
         }
         Err(difference) => {
             println!("compare: seed {seed}: {difference}");

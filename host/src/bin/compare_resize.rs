@@ -1,7 +1,8 @@
 //! compare-resize PROGRAM [FILES [SEED]]: what the printing program writes against the reference's printout.
 
 use reference::block::encode;
-use reference::generate::{any_block, most_wires};
+use reference::compare::elevens;
+use reference::generate::{compared_block, most_wires};
 use reference::printout::{printout, MAX_BYTES};
 use reference::random::Random;
 use reference::text::shown;
@@ -77,25 +78,45 @@ fn long_inputs() -> Vec<Vec<u8>> {
     inputs
 }
 
+/// Random block files, every fourth one damaged.
+fn random_inputs(random: &mut Random, files: u64) -> Vec<Vec<u8>> {
+    let mut input = || {
+        let file = encode(&compared_block(random, 64));
+        if random.chance(1, 4) {
+            damage::damaged(random, &file)
+        } else {
+            file
+        }
+    };
+    (0..files).map(|_| input()).collect()
+}
+
+/// Holds what the program writes to the reference's printout; returns the place if that is refusal 11.
+fn compare(program: &str, input: &[u8]) -> Option<u32> {
+    let (found, right) = (written(program, input), printout(input));
+    if found != right.as_bytes() {
+        fail(format!("wrote\n{}in place of\n{right}for {}", String::from_utf8_lossy(&found), shown(input)));
+    }
+    right.strip_prefix("refused 11 ")?.trim_end().parse().ok()
+}
+
 fn main() {
     let arguments: Vec<String> = std::env::args().skip(1).collect();
     let Some(program) = arguments.first() else { fail("usage: compare-resize PROGRAM [FILES [SEED]]".to_string()) };
     let number = |at: usize, default: u64| arguments.get(at).and_then(|word| word.parse().ok()).unwrap_or(default);
     let (files, seed) = (number(1, 300), number(2, 1));
-    let random = &mut Random::from_seed(seed);
-    let mut inputs: Vec<Vec<u8>> = worked::all().into_iter().map(|w| w.file).collect();
-    inputs.extend(boundaries::all().into_iter().map(|b| b.file));
-    inputs.extend(long_inputs());
-    for _ in 0..files {
-        let file = encode(&any_block(random, 64));
-        inputs.push(if random.chance(1, 4) { damage::damaged(random, &file) } else { file });
+    let mut fixed: Vec<Vec<u8>> = worked::all().into_iter().map(|w| w.file).collect();
+    fixed.extend(boundaries::all().into_iter().map(|b| b.file));
+    fixed.extend(long_inputs());
+    for input in &fixed {
+        compare(program, input);
     }
-    for input in &inputs {
-        let (found, right) = (written(program, input), printout(input));
-        if found != right.as_bytes() {
-            fail(format!("wrote\n{}in place of\n{right}for {}", String::from_utf8_lossy(&found), shown(input)));
-        }
+    let drawn = random_inputs(&mut Random::from_seed(seed), files);
+    let places: Vec<u32> = drawn.iter().filter_map(|input| compare(program, input)).collect();
+    if places.is_empty() {
+        fail("no random file got 11".to_string());
     }
     check_closed_output(program);
-    println!("compare-resize: seed {seed}: {} printouts", inputs.len());
+    let printouts = fixed.len() + drawn.len();
+    println!("compare-resize: seed {seed}: {printouts} printouts; of the random files {}", elevens(&places));
 }

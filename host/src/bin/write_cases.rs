@@ -1,7 +1,8 @@
 //! write-cases DIR: writes DIR/stdin and DIR/stdout of the program `cases`.
 //! write-cases --check DIR: says whether they still are what it would write.
 
-use reference::cases::{all, search_agrees, written};
+use reference::cases::{all, places_of_11, search_agrees, written};
+use reference::compare::elevens;
 use std::path::Path;
 use std::process::exit;
 
@@ -36,5 +37,6 @@ fn main() {
             fail(format!("{}: {error}", path.display()));
         }
     }
-    println!("cases: {} blocks, {searched} of them also by exhaustive search", cases.len());
+    let elevens = elevens(&places_of_11(&output));
+    println!("cases: {} blocks, {searched} of them also by exhaustive search; {elevens}", cases.len());
 }

@@ -2,7 +2,7 @@
 
 use super::lists::{List, Store, NONE};
 use super::netlist::Netlist;
-use crate::block::MAX_GATES;
+use crate::block::{refuse, Refusal, MAX_GATES};
 
 #[derive(Clone, Copy)]
 enum Kind {
@@ -68,8 +68,8 @@ impl Left {
 }
 
 impl Tree {
-    /// The tree of a block, or `None` if it is not series-parallel.
-    pub fn reduced(netlist: &Netlist) -> Option<Tree> {
+    /// The tree of a block, or refusal 11.
+    pub fn reduced(netlist: &Netlist) -> Result<Tree, Refusal> {
         let n = netlist.gates;
         let mut tree = Tree {
             nodes: [WIRE; MAX_NODES],
@@ -88,11 +88,11 @@ impl Tree {
         if n > 1 {
             tree.series(first, n - 1, 0);
         }
-        Some(tree)
+        Ok(tree)
     }
 
-    /// Takes gates away until none can go; the node of the one wire left.
-    fn reduce(&mut self, netlist: &Netlist) -> Option<u16> {
+    /// Takes gates away until none can go; the node of the one wire left, or refusal 11 with the lowest gate left.
+    fn reduce(&mut self, netlist: &Netlist) -> Result<u16, Refusal> {
         let last = netlist.gates - 1;
         let mut left = Left::all(netlist);
         let mut ready: Vec<usize> = (1..last).filter(|&g| left.can_go(g)).collect();
@@ -111,7 +111,10 @@ impl Tree {
             }
             left.wires_in[gate] = 0;
         }
-        (remaining == 0).then(|| left.node[0][last] - 1)
+        if remaining > 0 {
+            return refuse(11, (1..last).find(|&g| left.wires_in[g] > 0).unwrap_or(0));
+        }
+        Ok(left.node[0][last] - 1)
     }
 
     /// Joins the two wires of a gate, and the joined wire with the one beside it.

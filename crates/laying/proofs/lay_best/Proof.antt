@@ -31,7 +31,7 @@ enum-known-best c = search needs
 refused-requires-2 : tie.Need-refused-requires-2
 refused-requires-2 c κs =
     let start = c .before .before .before .before .before .before .before .before .before .before .before .before .before .before in
-    best-place (c .before .best .given .0 .0) (rw (c .before .best .given .1) at (c .before .before .before .before .best-held .ensures (start .pre .0) (start .pre .1)))
+    best-place (start .pre .1) (c .before .best .given .0 .0) (rw (c .before .best .given .1) at (c .before .before .before .before .best-held .ensures (start .pre .0) (start .pre .1)))
 
 enum-known-best-2 : tie.Need-enum-known-best-2
 enum-known-best-2 c = search needs

@@ -2,8 +2,9 @@
 
 use reference::answers;
 use reference::block::{decode, encode, Refusal, MAX_GATES};
+use reference::boundaries::{self, Boundary};
 use reference::worked::{self, Expected, U};
-use reference::{boundaries, exact, generate, merging, parts, printout, search};
+use reference::{exact, generate, merging, parts, printout, search};
 
 fn refusal<T>(answer: Result<T, Refusal>) -> Option<(u32, u32)> {
     answer.err().map(|r| (r.number, r.place))
@@ -49,14 +50,18 @@ pub fn check_worked() -> usize {
     count
 }
 
-/// Every boundary gets the refusal written beside it, from the reference and from list merging.
+/// Every boundary gets the refusal written beside it: from the reference's calls (the curve has no 12), in the printout, and
+/// from list merging.
 pub fn check_boundaries() -> usize {
     let all = boundaries::all();
-    for boundary in &all {
-        let found = refusal(answers::best_increases(&boundary.file, MAX_GATES));
-        assert_eq!(found, boundary.refused, "{}", boundary.name);
-        let merged = refusal(merging::best_increases(&boundary.file, &mut [0; MAX_GATES]));
-        assert_eq!(merged, boundary.refused, "{}, by merging", boundary.name);
+    for Boundary { name, file, refused } in &all {
+        assert_eq!(refusal(answers::best_increases(file, MAX_GATES)), *refused, "{name}");
+        assert_eq!(refusal(answers::layout_call(file, 4 * MAX_GATES)), *refused, "{name}, layout call");
+        assert_eq!(refusal(answers::curve(file, 512, 512)), refused.filter(|r| r.0 != 12), "{name}, curve");
+        assert_eq!(refusal(merging::best_increases(file, &mut [0; MAX_GATES])), *refused, "{name}, by merging");
+        let printed = printout::printout(file);
+        let line = refused.map(|(number, place)| format!("refused {number} {place}\n"));
+        assert!(line.map_or(printed.starts_with("gates "), |line| line == printed), "{name}: {printed}");
     }
     for number in [1, 2, 3, 4, 5, 6, 7, 8, 9, 11, 12] {
         assert!(all.iter().any(|b| b.refused.map_or(false, |r| r.0 == number)), "no boundary of {number}");
@@ -99,9 +104,10 @@ pub fn check_room() -> usize {
         assert_eq!(refusal(answers::judge(file, &[u32::MAX; 3])), ten(4));
         assert_eq!(refusal(answers::judge(file, &[u32::MAX; 4])), Some((13, 0)));
     }
-    assert_eq!(refusal(answers::layout_call(&late_bridge, 16)), Some((11, 0)));
+    assert_eq!(refusal(answers::layout_call(&late_bridge, 16)), Some((11, 1)));
+    assert_eq!(refusal(answers::curve(&late_bridge, 512, 512)), Some((11, 1)));
     assert_eq!(refusal(answers::layout_call(&late, 16)), Some((12, 0)));
     assert_eq!(refusal(answers::curve(&late, 512, 512)), None);
     assert_eq!(refusal(answers::best_increases(&[], 0)), Some((1, 0)));
-    16 + 4
+    16 + 5
 }

@@ -18,6 +18,8 @@ fn main() {
     println!("reduction against building up: {yes} series-parallel blocks, {no} others");
     let (yes, no) = networks::check_every_network(random);
     println!("the same on every network of up to 5 gates: {yes} series-parallel, {no} others");
+    let (yes, no, places) = networks::check_left(random);
+    println!("gates left in several orders: {yes} series-parallel blocks, {no} others with {places} different places");
     println!("generator: {} blocks", networks::check_generator(random));
     let (lists, late) = sizing::check_exact(random);
     println!("flows against every list: 6000 blocks, {lists} spares, {late} late blocks");

@@ -35,7 +35,7 @@ pub fn check_paths(random: &mut Random) -> usize {
     3_000
 }
 
-/// The reduction decides as building up does; both kinds occur.
+/// The reduction decides as building up does, and an inner gate is left where both say no; both kinds occur.
 pub fn check_parts(random: &mut Random) -> (usize, usize) {
     let (mut yes, mut no) = (0, 0);
     while yes + no < 4_000 {
@@ -47,6 +47,7 @@ pub fn check_parts(random: &mut Random) -> (usize, usize) {
         }
         let reduces = parts::reduces(&block);
         assert_eq!(reduces, parts::built_up(&block), "{block:?}");
+        assert_eq!(reduces, parts::lowest_left(&block, random).is_none(), "{block:?}");
         assert!(reduces || !matches!(kind, Wires::SeriesParallel | Wires::Wide), "{block:?}");
         yes += usize::from(reduces);
         no += usize::from(!reduces);
@@ -72,8 +73,7 @@ fn every_network(gates: usize) -> Vec<Block> {
     networks
 }
 
-/// The reduction decides as building up does on every network of up to 5 gates, and the generator makes each
-/// series-parallel one of up to 4.
+/// The same on every network of up to 5 gates, and the generator makes each series-parallel one of up to 4.
 pub fn check_every_network(random: &mut Random) -> (usize, usize) {
     let (mut yes, mut no) = (0, 0);
     for gates in 1..=5 {
@@ -86,12 +86,43 @@ pub fn check_every_network(random: &mut Random) -> (usize, usize) {
         for block in every_network(gates) {
             let reduces = parts::reduces(&block);
             assert_eq!(reduces, parts::built_up(&block), "{block:?}");
+            assert_eq!(reduces, parts::lowest_left(&block, random).is_none(), "{block:?}");
             assert!(gates == 5 || reduces == made.contains(&block.wires), "{block:?}");
             yes += usize::from(reduces);
             no += usize::from(!reduces);
         }
     }
     (yes, no)
+}
+
+/// Random orders of taking gates away and merging wires leave the same gates (document 02, K1), one of them between the first
+/// and the last exactly where the block does not reduce. Returns how many blocks reduce, how many do not, and how many
+/// different places these have.
+pub fn check_left(random: &mut Random) -> (usize, usize, usize) {
+    let (mut yes, mut small, mut large) = (0, 0, 0);
+    let mut places = HashSet::new();
+    for round in 0..8_000 {
+        let kind = random.pick(&[Wires::SeriesParallel, Wires::Wide, Wires::Nearly, Wires::Bridged, Wires::General]);
+        let most_gates = if round % 4 == 0 { 64 } else { 10 };
+        let gates = 1 + random.below(most_gates);
+        let block = generate::block(random, kind, Values::Small, gates, 0);
+        if network::check(&block).is_err() {
+            continue;
+        }
+        let left = parts::gates_left(&block, random);
+        for _ in 0..5 {
+            assert_eq!(parts::gates_left(&block, random), left, "{block:?}");
+        }
+        let place = parts::lowest_left(&block, random);
+        assert_eq!(place.is_none(), parts::reduces(&block), "{block:?}");
+        assert!(place.is_some() || kind != Wires::Bridged || gates < 4, "{block:?}");
+        yes += usize::from(place.is_none());
+        small += usize::from(place.is_some() && gates <= 10);
+        large += usize::from(place.is_some() && gates > 10);
+        places.extend(place);
+    }
+    assert!(yes > 2_000 && small > 1_000 && large > 500 && places.len() > 20, "{yes} {small} {large} {}", places.len());
+    (yes, small + large, places.len())
 }
 
 /// The generator makes what its kinds promise.
