@@ -1,4 +1,4 @@
--- Laws of the reduction's counted wires: which wires stand after a move (`gone`, `kept`, `wires-stay`, `no-new`), that at first the wires of the block stand (`counted`), and between which gates one that remains stands (`remains-inside`).
+-- Laws of the reduction's counted wires: which wires stand after a move (`gone`, `kept`, `fewer`, `wires-stay`), that at first the wires of the block stand (`counted`), and between which gates one that remains stands (`remains-inside`).
 -- Assumes nothing.
 use mathlib.Core.Path.{_≡_, refl, sym, ap, subst₂}
 use mathlib.Core.Logic.{_≢_, _⊎_, inl, inr, _↔_}

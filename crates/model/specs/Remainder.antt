@@ -26,15 +26,18 @@ pub record Moment : Type 0 where
 abbrev pub beginning : Block → Moment
 beginning B = record { wires = wires-between (B .wires); taken = [] }
 
+-- the counts f come to one in all, which is at a
+pub record OneOf (f : ℕ → ℕ) (a : ℕ) : Type 0 where
+  pub one : f a ≡ 1
+  pub no-other : (x : ℕ) → x ≢ a → f x ≡ 0
+
 -- exactly one wire leads into gate m, from gate a
-pub record OneInto (E : ℕ → ℕ → ℕ) (a m : ℕ) : Type 0 where
-  pub one : E a m ≡ 1
-  pub no-other : (x : ℕ) → x ≢ a → E x m ≡ 0
+abbrev pub OneInto : (ℕ → ℕ → ℕ) → ℕ → ℕ → Type 0
+OneInto E a m = OneOf (λ x. E x m) a
 
 -- exactly one wire leads out of gate m, to gate b
-pub record OneOutOf (E : ℕ → ℕ → ℕ) (m b : ℕ) : Type 0 where
-  pub one : E m b ≡ 1
-  pub no-other : (y : ℕ) → y ≢ b → E m y ≡ 0
+abbrev pub OneOutOf : (ℕ → ℕ → ℕ) → ℕ → ℕ → Type 0
+OneOutOf E m b = OneOf (E m) b
 
 -- gate m has no wire any more, and one more leads from a to b
 unfoldable pub without : ℕ → ℕ → ℕ → (ℕ → ℕ → ℕ) → ℕ → ℕ → ℕ

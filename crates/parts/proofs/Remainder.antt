@@ -1,4 +1,4 @@
--- What is left of a block does not depend on the order in which gates are taken away and doubled wires merged (`same-gates-left`), and some order comes to an end (`some-end`).
+-- What is left of a block does not depend on the order in which gates are taken away and doubled wires merged (`same-gates-left`); and what an order of takings leaves that goes on until no gate can go, some order of both steps leaves at its end (`end-of`).
 -- The idea: a wire stands at a moment where `Thru` leads, however often it stands; so a taking is a taking of `Diamond`, a merging changes nothing there, and an end is stuck. Conversely a gate that can go is taken, and where it doubles a wire the two are merged. Assumes nothing.
 use mathlib.Core.Path.{_≡_, refl, sym, _∙_, ap, subst, subst₂}
 use mathlib.Core.Logic.{_≢_, _⊎_, inl, inr, _↔_, ⊎-elim}
@@ -16,10 +16,6 @@ use Rattle.parts.specs.Network.{wire-at, Network}
 use Rattle.parts.proofs.Diamond.{thru-taken, left-more, takes-more, removable-same, same-end}
 use Rattle.parts.proofs.Start.{loop-free, place-of}
 
--- a wire stands
-abbrev Standing : R.Moment → ℕ → ℕ → Type 0
-Standing M x y = 0 < M .wires x y
-
 -- a count that is not above 0 is 0
 none : (n : ℕ) → (0 < n → ⊥) → n ≡ 0
 none n no-wire = go (decLt 0 n)
@@ -27,6 +23,17 @@ none n no-wire = go (decLt 0 n)
     go : Dec (0 < n) → n ≡ 0
     go (yes p) = absurd (no-wire p)
     go (no q) = omega arith
+
+-- The counts come to one in all exactly where one is above 0, at most 1, and no other is above 0.
+alone : {f : ℕ → ℕ} {a : ℕ} → R.OneOf f a → (x : ℕ) → 0 < f x → x ≡ a
+alone {f} {a} o x some = go (ℕ-discrete x a)
+  where
+    go : Dec (x ≡ a) → x ≡ a
+    go (yes e) = e
+    go (no n) = absurd (omega (arith, o .no-other x n))
+
+one-of : (f : ℕ → ℕ) (a : ℕ) → 0 < f a → f a ≤ 1 → ((x : ℕ) → 0 < f x → x ≡ a) → R.OneOf f a
+one-of f a some few only = record { one = omega arith; no-other = λ x n. none (f x) (λ p. n (only x p)) }
 
 -- Where no wire stands twice, each is counted once.
 counted-once :
@@ -55,7 +62,7 @@ module _ (B : Block) where
 
   -- a wire stands at the moment M where one is left
   abbrev Faithful : R.Moment → Type 0
-  Faithful M = (x y : ℕ) → Standing M x y ↔ Across (M .taken) x y
+  Faithful M = (x y : ℕ) → (0 < M .wires x y) ↔ Across (M .taken) x y
 
   -- Of a gate with one wire in and one out.
   module _ {M : R.Moment} (s : Faithful M) {m a b : ℕ} (into : R.OneInto (M .wires) a m) (out : R.OneOutOf (M .wires) m b) where
@@ -66,18 +73,10 @@ module _ (B : Block) where
     across-out = s m b .0 (omega (arith, out .one))
 
     only-in : (x : ℕ) → Left (M .taken) x → Thru (Joined (B .wires)) (M .taken) x m → x ≡ a
-    only-in x l t = go (ℕ-discrete x a)
-      where
-        go : Dec (x ≡ a) → x ≡ a
-        go (yes e) = e
-        go (no n) = absurd (omega (arith, into .no-other x n, s x m .1 (l, across-in .1, t)))
+    only-in x l t = alone into x (s x m .1 (l, across-in .1, t))
 
     only-out : (y : ℕ) → Left (M .taken) y → Thru (Joined (B .wires)) (M .taken) m y → y ≡ b
-    only-out y l t = go (ℕ-discrete y b)
-      where
-        go : Dec (y ≡ b) → y ≡ b
-        go (yes e) = e
-        go (no n) = absurd (omega (arith, out .no-other y n, s m y .1 (across-out .0, l, t)))
+    only-out y l t = alone out y (s m y .1 (across-out .0, l, t))
 
     removable : Removable (Joined (B .wires)) (M .taken) m
     removable =
@@ -137,17 +136,13 @@ module _ (B : Block) where
   module _ {M : R.Moment} (s : Faithful M) (simple : (x y : ℕ) → M .wires x y ≤ 1) {m : ℕ} (r : Removable (Joined (B .wires)) (M .taken) m) where
     one-into : R.OneInto (M .wires) (r .before .value) m
     one-into =
-        record {
-          one = let q = s _ _ .1 (r .before .holds .0, r .left, r .before .holds .1) in omega (arith, simple (r .before .value) m);
-          no-other = λ x n. none _ (λ q. let (u, v, t) = s x m .0 q in n (r .before .alone x (u, t)));
-        }
+        one-of (λ x. M .wires x m) (r .before .value) (s _ _ .1 (r .before .holds .0, r .left, r .before .holds .1)) (simple _ _)
+        (λ x q. let (u, v, t) = s x m .0 q in r .before .alone x (u, t))
 
     one-out-of : R.OneOutOf (M .wires) m (r .after .value)
     one-out-of =
-        record {
-          one = let q = s _ _ .1 (r .left, r .after .holds .0, r .after .holds .1) in omega (arith, simple m (r .after .value));
-          no-other = λ y n. none _ (λ q. let (u, v, t) = s m y .0 q in n (r .after .alone y (v, t)));
-        }
+        one-of (M .wires m) (r .after .value) (s _ _ .1 (r .left, r .after .holds .0, r .after .holds .1)) (simple _ _)
+        (λ y q. let (u, v, t) = s m y .0 q in r .after .alone y (v, t))
 
   -- Where neither applies, no gate can go.
   ended-stuck : {M : R.Moment} → Faithful M → ((N : R.Moment) → ¬ (R.Move M N)) → Stuck (Joined (B .wires)) (M .taken)
