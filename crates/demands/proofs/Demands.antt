@@ -51,6 +51,7 @@ pub record ElevenExactly {S : Type 0} (B : Block) (o : Outcome S) : Type 0 where
   pub exactly : ((p : ℕ) × (o .answer ≡ refusal 11 p)) ↔ NotBuilt B
   pub place : (p : ℕ) → (o .answer ≡ refusal 11 p) ↔ (NotBuilt B × Lowest (Remains B) p)
 
+-- so it is by the line of 11, where the further lines are for series-parallel blocks and do not answer it
 eleven-by : {S : Type 0} {B : Block} {lent : S} {further : Outcome S → Type 0} {o : Outcome S} → (further o → (¬ (o .answer .number ≡ 11)) × SeriesParallel B) → Line lent 11 (NotSeriesParallelAt B) further o → ElevenExactly B o
 eleven-by other line =
     let (there, back) = not-series-parallel in

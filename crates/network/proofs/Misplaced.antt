@@ -11,6 +11,7 @@ use lib.Dec.{eqb}
 use lib.ListN.{getD}
 use borrow.Author.Tests.{eqb-true, eqb-false, not-true, not-false}
 use Rattle.lists.specs.Search.{Says}
+use Rattle.lists.proofs.Search.{says-by}
 use Rattle.model.specs.Block.{Block, last, Joined}
 use Rattle.model.specs.Refusal.{EndFault, into-first, none-in, out-of-last, none-out}
 use Rattle.ordering.specs.Wires.{Lent, InArrays}
@@ -20,11 +21,6 @@ use Rattle.network.specs.declared.Faults.the-variants.{Nowhere, At}
 use Rattle.network.specs.Judged.{FaultFound}
 use Rattle.ordering.proofs.Marks.{first-same}
 use Rattle.ordering.proofs.Wires.{wired-gates, wired-joined, joined-wired}
-
--- what a test's two outcomes say
-says-by : (P : Type 0) (b : Bool) → (b ≡ true → P) → (b ≡ false → ¬ P) → Says P b
-says-by P true yes-if no-if = yes-if refl
-says-by P false yes-if no-if = no-if refl
 
 pub says-or : (P Q : Type 0) (b : Bool) → ¬ P → Says Q b → Says (P ⊎ Q) b
 says-or P Q true none q = inr q

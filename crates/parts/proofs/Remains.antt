@@ -1,14 +1,14 @@
 -- Which gates remain of a network: those that a slot leads to, at any end of the reduction. So one remains exactly when the block is not series-parallel (`left-exactly`), and the lowest is the lowest to which a slot leads (`lowest-remains`). Every network has an end (`some-end`).
 -- Assumes nothing.
-use mathlib.Core.Path.{_≡_, refl, sym, _∙_, ap, subst}
+use mathlib.Core.Path.{_≡_, sym, _∙_, ap, subst}
 use mathlib.Core.Logic.{_≢_, _↔_, ⊎-elim}
-use mathlib.Core.Bool.{Bool, true, false, false≢true}
+use mathlib.Core.Bool.{false≢true}
 use Prim.Native.Nat.{ℕ, zero, suc, _<_}
 use native.Mathlib.Decide.{ℕ-discrete, decLt}
 use native.Mathlib.Omega.{arith}
 use lib.ListN.{length}
-use Rattle.lists.specs.Search.{Lowest, Least, Says}
-use Rattle.lists.proofs.Search.{least-of-none, least-more}
+use Rattle.lists.specs.Search.{Lowest, Least}
+use Rattle.lists.proofs.Search.{says-by, least-of-none, least-more}
 use Rattle.model.specs.Block.{Block, gate-count, first, last, Joined}
 use Rattle.model.specs.Part.{SeriesParallel, built}
 use Rattle.model.specs.Remainder.{Moment, ReducedTo, Remains}
@@ -53,7 +53,7 @@ module _ {B : Block} {S : ℕ → Slot} (n : Network B) (r : Reducing (Joined (B
         not-last = d;
       }
 
-  pub nothing-remains : SeriesParallel B → (g : ℕ) → ¬ (Remains B g)
+  nothing-remains : SeriesParallel B → (g : ℕ) → ¬ (Remains B g)
   nothing-remains sp g m = go (ℕ-discrete (gate-count B) 1)
     where
       go : Dec (gate-count B ≡ 1) → ⊥
@@ -90,11 +90,7 @@ module _ {B : Block} {S : ℕ → Slot} (n : Network B) (r : Reducing (Joined (B
 led-least : (k b : ℕ) (S : ℕ → Slot) → LowestLed k S b (lowest-led k b S)
 unfolding lowest-led
 led-least zero b S = least-of-none b
-led-least (suc k) b S = least-more (led-least k b S) (omega arith) (S k .live) (live-says (S k .live))
-  where
-    live-says : (l : Bool) → Says (l ≡ true) l
-    live-says true = refl
-    live-says false = false≢true
+led-least (suc k) b S = least-more (led-least k b S) (omega arith) (S k .live) (says-by (Live (S k)) (S k .live) (λ e. e) (λ e l. false≢true (sym e ∙ l)))
 
 module _ {B : Block} (n : Network B) where
   pub gate-left-lowest : ¬ (SeriesParallel B) → Lowest (Remains B) (gate-left B)

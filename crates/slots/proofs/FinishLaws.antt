@@ -1,6 +1,5 @@
 -- The searches for the only live slot and for the lowest gate to which a live slot leads. Assumes nothing.
-use mathlib.Core.Path.{_≡_, refl, sym, _∙_, subst}
-use mathlib.Core.Bool.{Bool, true, false}
+use mathlib.Core.Path.{_≡_, sym, _∙_, subst}
 use mathlib.Core.List.{List}
 use Prim.Native.Nat.{ℕ, _+_, _≤_, _<_}
 use native.Mathlib.Decide.{ℕ-discrete, decLt}
@@ -8,8 +7,8 @@ use native.Mathlib.Omega.{arith}
 use borrow.Author.Tests.{eqb-true, eqb-false, eq-eqb, ne-eqb, lt-ltb, le-ltb}
 use lib.Dec.{eqb}
 use lib.ListN.{getD}
-use Rattle.lists.specs.Search.{lesser, Says}
-use Rattle.lists.proofs.Search.{least-more}
+use Rattle.lists.specs.Search.{lesser}
+use Rattle.lists.proofs.Search.{says-by, least-more}
 use Rattle.slots.specs.Sought.{LiveFrom, OnlyLive, LowestLed}
 
 -- no slot from s on and below i is live
@@ -80,8 +79,5 @@ live-kept l v g e h = rw (eq-eqb l 1 e, le-ltb v g (omega arith))
 -- one slot more
 pub led-more : (lives tos : List ℕ) (k b g r : ℕ) → LowestLed lives tos k b g → r ≡ lesser (eqb (getD lives k 0) 1) (getD tos k 0) g → LowestLed lives tos (k + 1) b r
 led-more lives tos k b g r l e =
-    subst (LowestLed lives tos (k + 1) b) (sym e) (least-more l (omega arith) (eqb (getD lives k 0) 1) (one-says (eqb (getD lives k 0) 1) refl))
-  where
-    one-says : (t : Bool) → eqb (getD lives k 0) 1 ≡ t → Says (getD lives k 0 ≡ 1) t
-    one-says true q = eqb-true (getD lives k 0) 1 q
-    one-says false q = eqb-false (getD lives k 0) 1 q
+    let live = getD lives k 0 in
+    subst (LowestLed lives tos (k + 1) b) (sym e) (least-more l (omega arith) (eqb live 1) (says-by (live ≡ 1) (eqb live 1) (eqb-true live 1) (eqb-false live 1)))

@@ -56,8 +56,9 @@ fn lower(live: &[u32], to: &[u32], i: usize, g: usize) -> usize
     if live[i] != 1 {
         return g;
     }
-    if (to[i] as usize) < g {
-        return to[i] as usize;
+    let end = to[i] as usize;
+    if end < g {
+        return end;
     }
     g
 }

@@ -12,6 +12,7 @@ use borrow.Author.Tests.{ltb-true, ltb-false}
 use lib.Dec.{ltb}
 use lib.ListN.{length, getD}
 use Rattle.lists.specs.Search.{Says}
+use Rattle.lists.proofs.Search.{says-by}
 use Rattle.model.specs.Block.{Step, Block, gate-count, first, last, Joined}
 use Rattle.model.specs.Path.{Path, Longest}
 use Rattle.model.specs.Slack.{source-by}
@@ -34,11 +35,7 @@ line-by {place = place} o true says rest = fits place (refl, says) refl
 line-by o false says rest = passes (λ p h. says (h .1)) (rest refl)
 
 pub less-says : (a b : ℕ) → Says (a < b) (ltb a b)
-less-says a b = go (ltb a b) refl
-  where
-    go : (t : Bool) → ltb a b ≡ t → Says (a < b) t
-    go true e = ltb-true a b e
-    go false e = λ l. omega (arith, ltb-false a b e)
+less-says a b = says-by (a < b) (ltb a b) (ltb-true a b) (λ e l. omega (arith, ltb-false a b e))
 
 -- what the search for the least number finds
 abbrev pub FindsLowest : (ℕ → Bool) → ℕ → Option ℕ → Type 0

@@ -112,7 +112,8 @@ impl Tree {
             left.wires_in[gate] = 0;
         }
         if remaining > 0 {
-            return refuse(11, (1..last).find(|&g| left.wires_in[g] > 0).unwrap_or(0));
+            let lowest = (1..last).find(|&g| left.wires_in[g] > 0);
+            return refuse(11, lowest.expect("a gate between the first and the last"));
         }
         Ok(left.node[0][last] - 1)
     }
