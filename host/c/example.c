@@ -5,8 +5,8 @@
 #include <inttypes.h>
 #include <stdio.h>
 
-/* A block file has at most 3,787 bytes; a longer one is refused however it goes on. */
-#define MOST_BYTES 4096
+/* A block file has at most 4,299 bytes; a longer one is refused however it goes on. */
+#define MOST_BYTES 8192
 #define MOST_GATES 64
 
 /* Four bytes, high byte first. */

@@ -13,15 +13,22 @@ int main(void)
 {
     /* one gate of delay 5, p 128, step (2,3); deadline 8 */
     static const uint8_t one_gate[] = {1, 0, 8, 1, 1, 0, 0, 0, 8, 0, 128, 2, 0, 8, 0, 5, 0, 128, 0, 2, 0, 3};
+    /* edition 2: two gates of delay 1, p 128, step (4,3) each, joined by a wire of delay 4; deadline 9 */
+    static const uint8_t two_gates[] = {1, 0, 8, 2, 2, 0, 0, 0, 9, 0, 128, 2, 0, 8, 0, 1, 0, 128, 0, 4, 0, 3,
+                                        2, 0, 8, 0, 1, 0, 128, 0, 4, 0, 3, 3, 0, 4, 0, 1, 0, 4};
     uint8_t bytes[5] = {9, 9, 9, 9, 9};
+    uint8_t both[8];
 
     honduvi_answer nothing = honduvi_best_increases(NULL, 0, NULL, 0);
     honduvi_answer no_room = honduvi_best_increases(one_gate, sizeof one_gate, NULL, 0);
     honduvi_answer sized = honduvi_best_increases(one_gate, sizeof one_gate, bytes, sizeof bytes);
+    honduvi_answer delayed = honduvi_best_increases(two_gates, sizeof two_gates, both, sizeof both);
     int right = nothing.number == 1 && nothing.place == 0 && nothing.saving == 0;
     right = right && no_room.number == 10 && no_room.place == 4 && no_room.saving == 0;
     right = right && sized.number == 0 && sized.place == 1 && sized.saving == 6 * 32768;
     right = right && bytes[0] == 0 && bytes[1] == 0 && bytes[2] == 0 && bytes[3] == 2 && bytes[4] == 9;
-    puts(right ? "header: 3 calls" : "header: wrong answer");
+    right = right && delayed.number == 0 && delayed.place == 2 && delayed.saving == 9 * 32768;
+    right = right && both[3] == 0 && both[7] == 3;
+    puts(right ? "header: 4 calls" : "header: wrong answer");
     return right ? 0 : 1;
 }

@@ -15,10 +15,10 @@ extern "C" {
 
     1  place: byte offset   a due block or gate field is missing, or a header or body passes the end
     2  place: byte offset   the tag is not the one due
-    3  place: byte offset   the length is not one of that tag's
+    3  place: byte offset   the length is not one of that tag's in that edition
     4  place: byte offset   a number is out of its range
     5  place: byte offset   drops do not fall strictly
-    6  place: byte offset   a wire joins a gate to itself, or stood before
+    6  place: byte offset   a wire joins a gate to itself, or stood before, whatever its delay
     7  place: byte offset   a byte follows the 256th wire
     8  place: lowest gate on a loop
     9  place: lowest gate with a wire where it must have none, or none where it must have one
@@ -32,10 +32,10 @@ typedef struct {
     uint64_t saving;
 } honduvi_answer;
 
-/* Reads the block file of file_len bytes. If it is accepted, the first 4n bytes of increases hold the best list: four
-   bytes for each gate in order, high byte first. The bytes beyond are unchanged, and all of them are if it is refused.
-   256 bytes are enough for every block. A null pointer is allowed with length 0 only. The two areas may not overlap.
-   The call keeps nothing, allocates nothing and always returns. */
+/* Reads the block file of file_len bytes, of edition 1 or 2; in edition 2 each wire has a delay. If it is accepted, the first
+   4n bytes of increases hold the best list: four bytes for each gate in order, high byte first. The bytes beyond are
+   unchanged, and all of them are if it is refused. 256 bytes are enough for every block. A null pointer is allowed with
+   length 0 only. The two areas may not overlap. The call keeps nothing, allocates nothing and always returns. */
 honduvi_answer honduvi_best_increases(const uint8_t *file, size_t file_len, uint8_t *increases, size_t increases_len);
 
 #ifdef __cplusplus

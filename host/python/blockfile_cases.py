@@ -2,14 +2,23 @@
 """blockfile_cases.py DIR: writes DIR/stdin and DIR/stdout of the program blockfile_cases.
 blockfile_cases.py --check DIR: says whether they still are what it would write.
 
-stdin: the length of a block file (2 bytes, high byte first), its bytes, then cases of 8 bytes: how many bytes of the file
-are read (2), and two changes, each a place (2) and the byte to put there (1); a place beyond the file changes nothing.
-stdout: for each case what document 01 says of the changed file, by the reader below, which shares nothing with the crate."""
+stdin: groups, one for each edition: the length of a block file and the number of cases (2 bytes each, high byte first), the
+file's bytes, then the cases of 8 bytes: how many bytes of the file are read (2), and two changes, each a place (2) and the byte
+to put there (1); a place beyond the file changes nothing.
+stdout: for each case what document 01, and K2 in document 02, say of the changed file, by the reader below, which shares
+nothing with the crate. Of a file that is read: gates, wires, arrival, deadline, activity of the input, and the delay of the
+first wire if there is one."""
+from itertools import chain, cycle
+
 from small_files import SMALL_FILES
 from stored import store
 
+MOST_BYTES = 8192
 NOWHERE = 65535
-LENGTHS = {1: {8}, 2: {4 + 4 * k for k in range(9)}, 3: {2}}
+# the length of a wire's body in each edition
+WIRE_LENGTH = {1: 2, 2: 4}
+# the delays of the wires of edition 2, one after another
+DELAYS = [4095, 0, 256, 255, 1, 3840]
 
 
 def two(number):
@@ -28,14 +37,14 @@ def numbers(body):
     return [256 * body[i] + body[i + 1] for i in range(0, len(body), 2)]
 
 
-def take(file, at, due):
+def take(file, at, due, lengths):
     """The body of the field due at an offset, and the offset behind it."""
     if len(file) - at < 3:
         raise Refused(1, at)
     if file[at] != due:
         raise Refused(2, at)
     size = 256 * file[at + 1] + file[at + 2]
-    if size not in LENGTHS[due]:
+    if size not in lengths:
         raise Refused(3, at)
     body = file[at + 3 : at + 3 + size]
     if len(body) < size:
@@ -43,120 +52,208 @@ def take(file, at, due):
     return body, at + 3 + size
 
 
-def read(file):
-    body, at = take(file, 0, 1)
-    arrival, deadline, p = numbers(body[2:])
-    if body[0] != 1 or not 1 <= body[1] <= 64 or p > 256:
-        raise Refused(4, 0)
-    gates = body[1]
+def read_gates(file, gates):
+    """The offset behind the gate fields."""
+    at = 11
     for _ in range(gates):
         tag_at = at
-        body, at = take(file, at, 2)
-        delay, q, *steps = numbers(body)
+        body, at = take(file, at, 2, {4 + 4 * k for k in range(9)})
+        delay, p, *steps = numbers(body)
         widths, drops = steps[0::2], steps[1::2]
-        if delay > 4095 or q > 256 or not all(1 <= w <= 4095 for w in widths) or not all(1 <= d <= 1000 for d in drops):
+        if delay > 4095 or p > 256 or not all(1 <= w <= 4095 for w in widths) or not all(1 <= d <= 1000 for d in drops):
             raise Refused(4, tag_at)
         if any(drops[i] <= drops[i + 1] for i in range(len(drops) - 1)):
             raise Refused(5, tag_at)
-    wires = set()
+    return at
+
+
+def read_wires(file, at, edition, gates):
+    """The delay of each wire, in file order."""
+    delays = {}
     while at < len(file):
-        if len(wires) == 256:
+        if len(delays) == 256:
             raise Refused(7, at)
         tag_at = at
-        (source, target), at = take(file, at, 3)
-        if source >= gates or target >= gates:
+        (source, target, *delay), at = take(file, at, 3, {WIRE_LENGTH[edition]})
+        ticks = numbers(delay)[0] if delay else 0
+        if source >= gates or target >= gates or ticks > 4095:
             raise Refused(4, tag_at)
-        if source == target or (source, target) in wires:
+        if source == target or (source, target) in delays:
             raise Refused(6, tag_at)
-        wires.add((source, target))
-    return gates, len(wires), arrival, deadline, 2 * p * (256 - p)
+        delays[source, target] = ticks
+    return list(delays.values())
 
 
-def whole_block():
-    """17 gates, the first of which has 8 steps, and 256 wires: its bytes, and the offsets of its gates and wires."""
-    block = field(1, [1, 17] + two(0) + two(65535) + two(256))
-    steps = [n for k in range(8) for n in two(4095) + two(1000 - k)]
-    gates_at, wires_at = [], []
-    for body in [two(4095) + two(256) + steps] + [two(g) + two(128) for g in range(16)]:
-        gates_at.append(len(block))
-        block += field(2, body)
-    for wire in [[a, b] for a in range(17) for b in range(17) if a != b][:256]:
-        wires_at.append(len(block))
-        block += field(3, wire)
-    return block, gates_at, wires_at
+def read(file):
+    (edition, gates, *times), _ = take(file, 0, 1, {8})
+    arrival, deadline, p = numbers(times)
+    if edition not in WIRE_LENGTH or not 1 <= gates <= 64 or p > 256:
+        raise Refused(4, 0)
+    delays = read_wires(file, read_gates(file, gates), edition, gates)
+    return gates, len(delays), arrival, deadline, 2 * p * (256 - p), *delays[:1]
 
 
-BLOCK, GATES_AT, WIRES_AT = whole_block()
-WHOLE = len(BLOCK)
-FIRST, SECOND, THIRD = GATES_AT[:3]
-WIRE, WIRE_2, LAST = WIRES_AT[0], WIRES_AT[1], WIRES_AT[-1]
+class Whole:
+    """A file of 17 gates, the first of which has 8 steps, and 256 wires: its bytes, its size, and the offsets of some fields.
+    One more byte, in edition 2 one more wire, stands behind it."""
+
+    def __init__(self, edition):
+        block = field(1, [edition, 17] + two(0) + two(65535) + two(256))
+        steps = [n for k in range(8) for n in two(4095) + two(1000 - k)]
+        gates_at, wires_at = [], []
+        for body in [two(4095) + two(256) + steps] + [two(g) + two(128) for g in range(16)]:
+            gates_at.append(len(block))
+            block += field(2, body)
+        wires = [[a, b] for a in range(17) for b in range(17) if a != b]
+        for wire, delay in zip(wires[:256], cycle(DELAYS)):
+            wires_at.append(len(block))
+            block += field(3, wire + two(delay)[: WIRE_LENGTH[edition] - 2])
+        self.size = len(block)
+        self.file = block + ([3] if edition == 1 else field(3, wires[256] + two(1)))
+        self.first, self.second, self.third = gates_at[:3]
+        self.wire, self.wire_2, self.last = wires_at[0], wires_at[1], wires_at[-1]
+        # a wire from the same gate as the first, with the same delay
+        self.wire_like_first = wires_at[len(DELAYS)]
+
 
 # A case is how many bytes are read, and up to two changes.
 
 
-def sizes():
-    """Cut at every byte of the block field, of a gate and of two wires, and behind each."""
-    yield WHOLE,
-    yield WHOLE + 1,
-    for start, end in ((0, FIRST), (SECOND, THIRD), (WIRE, WIRE_2), (LAST, WHOLE)):
+def cut(*fields):
+    """Cut at every byte of some fields, each from one offset to another."""
+    for start, end in fields:
         for size in range(start, end + 1):
             yield size,
 
 
-def tags_and_lengths():
-    for at in (0, SECOND, WIRE):
+def sizes(whole):
+    """Cut at every byte of the block field, of a gate and of two wires, and behind each."""
+    yield whole.size,
+    yield whole.size + 1,
+    yield from cut((0, whole.first), (whole.second, whole.third), (whole.wire, whole.wire_2), (whole.last, whole.size))
+
+
+def tags_and_lengths(whole):
+    for at in (0, whole.second, whole.wire):
         for tag in (0, 1, 2, 3, 4, 255):
-            yield WHOLE, (at, tag)
-    for at in (0, FIRST, SECOND, WIRE, LAST):
+            yield whole.size, (at, tag)
+    for at in (0, whole.first, whole.second, whole.wire, whole.last):
         for size in (0, 1, 2, 3, 4, 7, 8, 9, 35, 36, 37, 40, 65535):
-            yield WHOLE, (at + 1, size >> 8), (at + 2, size & 255)
+            yield whole.size, (at + 1, size >> 8), (at + 2, size & 255)
 
 
-def ranges_and_drops():
+def ranges_and_drops(whole):
     # edition, gate count, p 257 of the input, arrival; 65 gates without any field of one; p 128 of the input
-    for change in ((3, 0), (3, 2), (4, 0), (4, 1), (4, 16), (4, 18), (4, 64), (4, 65), (4, 255), (10, 1), (5, 255)):
-        yield WHOLE, change
-    yield FIRST, (4, 65)
-    yield WHOLE, (9, 0), (10, 128)
+    for edition in (0, 2, 3, 255):
+        yield whole.size, (3, edition)
+    for change in ((4, 0), (4, 1), (4, 16), (4, 18), (4, 64), (4, 65), (4, 255), (10, 1), (5, 255)):
+        yield whole.size, change
+    yield whole.first, (4, 65)
+    yield whole.size, (9, 0), (10, 128)
     # of a gate: delay 4096, p 257, width 0 and 4096, drop 0 and 1001, drops equal, rising, and falling by more than 1
-    body = FIRST + 3
-    yield WHOLE, (body, 16), (body + 1, 0)
-    yield WHOLE, (body + 3, 1)
-    yield WHOLE, (body + 4, 0), (body + 5, 0)
-    yield WHOLE, (body + 4, 16), (body + 5, 0)
-    yield WHOLE, (body + 6, 0), (body + 7, 0)
-    yield WHOLE, (body + 7, 1001 & 255)
-    yield WHOLE, (body + 11, 1000 & 255)
-    yield WHOLE, (body + 35, 999 & 255)
-    yield WHOLE, (body + 35, 768 & 255)
+    body = whole.first + 3
+    yield whole.size, (body, 16), (body + 1, 0)
+    yield whole.size, (body + 3, 1)
+    yield whole.size, (body + 4, 0), (body + 5, 0)
+    yield whole.size, (body + 4, 16), (body + 5, 0)
+    yield whole.size, (body + 6, 0), (body + 7, 0)
+    yield whole.size, (body + 7, 1001 & 255)
+    yield whole.size, (body + 11, 1000 & 255)
+    yield whole.size, (body + 35, 999 & 255)
+    yield whole.size, (body + 35, 768 & 255)
 
 
-def wires():
+def wires(whole):
     # to itself; twice, just behind and at the end; beyond the gates; beyond them and to itself; to itself before a 257th
-    yield WHOLE, (WIRE + 4, 0)
-    yield WHOLE, (WIRE_2 + 4, 1)
-    yield WHOLE, (LAST + 3, 0), (LAST + 4, 1)
-    yield WHOLE, (WIRE + 4, 17)
-    yield WHOLE, (WIRE + 3, 16), (WIRE + 4, 17)
-    yield WHOLE, (WIRE + 3, 255), (WIRE + 4, 255)
-    yield WHOLE + 1, (LAST + 3, 0), (LAST + 4, 0)
+    wire, last = whole.wire, whole.last
+    yield whole.size, (wire + 4, 0)
+    yield whole.size, (whole.wire_2 + 4, 1)
+    yield whole.size, (last + 3, 0), (last + 4, 1)
+    yield whole.size, (wire + 4, 17)
+    yield whole.size, (wire + 3, 16), (wire + 4, 17)
+    yield whole.size, (wire + 3, 255), (wire + 4, 255)
+    yield whole.size + 1, (last + 3, 0), (last + 4, 0)
 
 
-def like_small_files():
+def like_small_files(whole):
     """Faults of the small files that do not stand above, as near as two changes come to them."""
+    first = whole.first
     # tag before length; length before short body; short body before a number's range
     yield 3, (0, 2), (2, 9)
     yield 3, (2, 9)
     yield 4, (3, 2)
     # no gate; p 257, one gate; one gate and no wire; one gate missing; a wire in its place; 9 steps without a body
-    yield FIRST, (4, 0)
-    yield FIRST, (4, 1), (10, 1)
-    yield SECOND, (4, 1)
-    yield FIRST, (4, 1)
-    yield FIRST + 5, (FIRST, 3), (FIRST + 2, 2)
-    yield FIRST + 3, (FIRST + 2, 40)
+    yield first, (4, 0)
+    yield first, (4, 1), (10, 1)
+    yield whole.second, (4, 1)
+    yield first, (4, 1)
+    yield first + 5, (first, 3), (first + 2, 2)
+    yield first + 3, (first + 2, 40)
     # one byte behind a wire
-    yield WIRE_2 + 1,
+    yield whole.wire_2 + 1,
+
+
+def editions(whole):
+    """The edition decides what length a wire has, and is judged before it."""
+    wire = whole.wire
+    for edition in (0, 1, 2, 3, 255):
+        yield whole.size, (3, edition)
+    yield whole.size, (3, 3), (wire + 2, 9)
+    # edition 1 with a first wire of 2 bytes, behind which no tag stands; a wire of 2 bytes in edition 2
+    yield whole.size, (3, 1), (wire + 2, 2)
+    yield whole.size, (wire + 2, 2)
+    # no wire; one gate, in each edition
+    yield wire,
+    for edition in (1, 2, 3):
+        yield whole.second, (4, 1), (3, edition)
+
+
+def wire_fields(whole):
+    """Cut at every byte of two wires and of a 257th; tags and lengths."""
+    yield whole.size,
+    yield from cut((whole.wire, whole.wire_2 + 1), (whole.last, len(whole.file)))
+    for tag in (0, 1, 2, 4, 255):
+        yield whole.size, (whole.wire, tag)
+    for at in (whole.wire, whole.last):
+        for size in (0, 1, 2, 3, 4, 5, 6, 8, 260, 65535):
+            yield whole.size, (at + 1, size >> 8), (at + 2, size & 255)
+    # a wrong tag with a wrong length; a wrong length without a body; a body short of numbers out of range
+    yield whole.size, (whole.wire, 2), (whole.wire + 2, 5)
+    yield whole.wire + 3, (whole.wire + 2, 5)
+    yield whole.wire + 6, (whole.wire + 4, 255), (whole.wire + 5, 255)
+
+
+def wire_delays(whole):
+    """In and out of range, in the first wire and the last; the two bytes one by one."""
+    for delay in (0, 1, 255, 256, 257, 3840, 4094, 4095, 4096, 4097, 4351, 32768, 65535):
+        yield whole.size, (whole.wire + 5, delay >> 8), (whole.wire + 6, delay & 255)
+    for delay in (4095, 4096, 65535):
+        yield whole.size, (whole.last + 5, delay >> 8), (whole.last + 6, delay & 255)
+    # only the first wire is there
+    for delay in (0, 256, 4095, 4096):
+        yield whole.wire_2, (whole.wire + 5, delay >> 8), (whole.wire + 6, delay & 255)
+
+
+def wires_with_delays(whole):
+    """Ends and delays together: 4 before 6, and a second wire whatever its delay."""
+    wire, second, like_first = whole.wire, whole.wire_2, whole.wire_like_first
+    # the delay out of range: to itself; stood before; beyond the gates
+    yield whole.size, (wire + 4, 0), (wire + 5, 16)
+    yield whole.size, (second + 4, 1), (second + 5, 16)
+    yield whole.size, (wire + 4, 17), (wire + 5, 255)
+    # stood before with the same delay, and with others
+    yield whole.size, (like_first + 4, 1)
+    yield whole.size, (like_first + 4, 1), (like_first + 6, 254)
+    yield whole.size, (whole.last + 3, 0), (whole.last + 4, 2)
+    # two faults: the delay of the first wire, and the tag or the length of the second
+    yield whole.size, (wire + 5, 16), (second, 2)
+    yield whole.size, (wire + 5, 16), (second + 2, 2)
+
+
+CASES = {
+    1: (sizes, tags_and_lengths, ranges_and_drops, wires, like_small_files),
+    2: (wire_fields, editions, wire_delays, wires, wires_with_delays),
+}
 
 
 def outcome(file):
@@ -174,22 +271,28 @@ def check_by_hand():
         assert (numbers[1] if word == "read" else numbers) == right, file
 
 
-def main():
-    check_by_hand()
-    block = BLOCK + [3]
-    given, said, count = two(len(block)) + block, "", 0
-    for size, *changes in [*sizes(), *tags_and_lengths(), *ranges_and_drops(), *wires(), *like_small_files()]:
-        file = list(block)
-        given += two(size)
+def group(edition):
+    """The bytes of a group, and the lines that its cases come to."""
+    whole = Whole(edition)
+    cases, lines = [], []
+    for size, *changes in chain.from_iterable(make(whole) for make in CASES[edition]):
+        file = list(whole.file)
+        cases += two(size)
         for place, byte in (changes + 2 * [(NOWHERE, 0)])[:2]:
-            given += two(place) + [byte]
+            cases += two(place) + [byte]
             if place < len(file):
                 file[place] = byte
         word, numbers = outcome(file[:size])
-        said += " ".join([word, *map(str, numbers)]) + "\n"
-        count += 1
-    store(bytes(given), said)
-    print("blockfile_cases: %d files" % count)
+        lines.append(" ".join([word, *map(str, numbers)]) + "\n")
+    return two(len(whole.file)) + two(len(lines)) + whole.file + cases, lines
+
+
+def main():
+    check_by_hand()
+    groups = [group(edition) for edition in CASES]
+    given = bytes(byte for some, _ in groups for byte in some)
+    store(given, "".join(line for _, lines in groups for line in lines), MOST_BYTES)
+    print("blockfile_cases: %s files" % " and ".join(str(len(lines)) for _, lines in groups))
 
 
 main()

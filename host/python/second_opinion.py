@@ -1,16 +1,18 @@
-"""A second reader of document 01, and of K1 in document 02, in another language: holds the stored cases to them.
+"""A second reader of document 01, and of K1 and K2 in document 02, in another language: holds the stored cases to them.
 
 second_opinion.py DIR reads DIR/stdin and DIR/stdout as host/CASES.md describes them. Which lines there are, refusals, slacks
 and judging are checked for every case, the place of 11 by taking gates away and merging wires in several orders; the best list
 and the curve of small blocks by trying everything. Of a larger block's curve are checked start, count, widths, falling gains,
 its length and what all of it earns, which no search is needed for; of its best list that it is in time, saves what is stated
 and what the curve says, and slows no gate that gains nothing.
-At the end mistakes are put into the lines of some larger blocks, given an answer or refused with 11; each must be noticed.
+At the end mistakes are put into the lines of some larger blocks, given an answer or refused with 11, and into those of some
+blocks with wire delays the lines that mistaken delays would give; each must be noticed.
 """
 
 import itertools
 import sys
 from collections import Counter
+from copy import copy
 from functools import lru_cache
 from pathlib import Path
 from random import Random
@@ -19,10 +21,13 @@ MOST_LISTS = 2_000
 MOST_WIRES = 8
 ORDERS = 3
 BLOCKS_MISTAKEN = 10
+WIRES_MISTAKEN = 4
 MOST_PAIRS = 512
 LARGEST_GAIN = 63 * 32_768 * 1_000
 ALWAYS = ["case", "slacks", "curve", "best", "judge"]
 WITH_SLACKS = ["more", "beyond", "largest"]
+# the length of a wire's body in each edition
+WIRE_LENGTH = {1: 2, 2: 4}
 
 
 class Refused(Exception):
@@ -35,6 +40,11 @@ class Wrong(Exception):
 
 def number(data, at):
     return 256 * data[at] + data[at + 1]
+
+
+def slacks_between(lasts, arrival, required):
+    """Required time minus source delay, for each gate."""
+    return [latest - (arrival + longest) for longest, latest in zip(lasts, required)]
 
 
 def take_field(data, at, tag, lengths):
@@ -54,11 +64,11 @@ def take_field(data, at, tag, lengths):
 class Block:
     def __init__(self, data):
         head = take_field(data, 0, 1, {8})
-        self.n = head[1]
+        self.edition, self.n = head[0], head[1]
         self.arrival, self.deadline, self.p = number(head, 2), number(head, 4), number(head, 6)
-        if head[0] != 1 or not 1 <= self.n <= 64 or self.p > 256:
+        if self.edition not in WIRE_LENGTH or not 1 <= self.n <= 64 or self.p > 256:
             raise Refused(4, 0)
-        self.delay, self.gate_p, self.steps, self.wires = [], [], [], []
+        self.delay, self.gate_p, self.steps, self.wires, self.wire_delay = [], [], [], [], {}
         at = 11
         for _ in range(self.n):
             at = self.read_gate(data, at)
@@ -88,13 +98,15 @@ class Block:
     def read_wire(self, data, at):
         if len(self.wires) == 256:
             raise Refused(7, at)
-        a, b = take_field(data, at, 3, {2})
-        if max(a, b) >= self.n:
+        body = take_field(data, at, 3, {WIRE_LENGTH[self.edition]})
+        a, b, delay = body[0], body[1], int.from_bytes(body[2:], "big")
+        if max(a, b) >= self.n or delay > 4095:
             raise Refused(4, at)
         if a == b or (a, b) in self.wires:
             raise Refused(6, at)
         self.wires.append((a, b))
-        return at + 5
+        self.wire_delay[a, b] = delay
+        return at + 3 + len(body)
 
     def check_network(self):
         for g in range(self.n):
@@ -127,18 +139,23 @@ class Block:
         """The longest path to each gate's output."""
         time = [0] * self.n
         for g in self.order:
-            time[g] = max([time[a] for a in self.into[g]], default=0) + self.delay[g] + increases[g]
+            before = max([time[a] + self.wire_delay[a, g] for a in self.into[g]], default=0)
+            time[g] = before + self.delay[g] + increases[g]
         return time
 
     def longest(self, increases):
         return self.lasts(increases)[self.n - 1]
 
-    def slacks(self):
-        source = self.lasts([0] * self.n)
-        required = [self.deadline] * self.n
+    def required(self):
+        """The deadline, carried backwards to each gate's output."""
+        time = [self.deadline] * self.n
         for g in reversed(self.order):
-            required[g] = min([required[b] - self.delay[b] for b in self.out[g]], default=self.deadline)
-        return [required[g] - self.arrival - source[g] for g in range(self.n)]
+            behind = [time[b] - self.delay[b] - self.wire_delay[g, b] for b in self.out[g]]
+            time[g] = min(behind, default=self.deadline)
+        return time
+
+    def slacks(self):
+        return slacks_between(self.lasts([0] * self.n), self.arrival, self.required())
 
     def widths(self, g):
         return sum(w for w, _ in self.steps[g])
@@ -146,8 +163,10 @@ class Block:
     def saving(self, increases):
         total = 0
         for g in range(self.n):
-            drops = [d for w, d in self.steps[g] for _ in range(w)]
-            total += sum(drops[: increases[g]]) * self.activity[g]
+            ticks = increases[g]
+            for width, drop in self.steps[g]:
+                total += min(ticks, width) * drop * self.activity[g]
+                ticks -= min(ticks, width)
         return total
 
     def judge(self, increases):
@@ -211,6 +230,16 @@ class Block:
     def spare(self):
         return self.deadline - self.arrival - self.longest([0] * self.n)
 
+    def says(self):
+        """All that the file says but the edition."""
+        return repr((self.arrival, self.deadline, self.p, self.delay, self.gate_p, self.steps, self.wires, self.wire_delay))
+
+    def __eq__(self, other):
+        return self.says() == other.says()
+
+    def __hash__(self):
+        return hash(self.says())
+
     def every_list(self):
         """Every list in some order, with its longest path and its saving."""
         for increases in itertools.product(*[range(self.widths(g) + 1) for g in range(self.n)]):
@@ -262,6 +291,7 @@ def answer(call):
         return "refused %d %d" % refused.args
 
 
+@lru_cache(maxsize=None)
 def best_and_curve(block):
     """The best list in time and the curve, as words, from every list."""
     start = block.longest([0] * block.n)
@@ -303,6 +333,15 @@ def counted_off(words, spare):
     return total
 
 
+@lru_cache(maxsize=1)
+def read(data):
+    """The block, or its refusal in words."""
+    try:
+        return Block(data), None
+    except Refused as refused:
+        return None, "refused %d %d" % refused.args
+
+
 class Case:
     def __init__(self, count, record, lines):
         self.count = count
@@ -310,10 +349,7 @@ class Case:
         self.gate, self.beyond = record[7], int.from_bytes(record[8:12], "big")
         self.names = [line.split(" ")[0] for line in lines]
         self.lines = {name: line[len(name) + 1 :] for name, line in zip(self.names, lines)}
-        try:
-            self.block, self.refused = Block(record[12:]), None
-        except Refused as refused:
-            self.block, self.refused = None, "refused %d %d" % refused.args
+        self.block, self.refused = read(record[12:])
 
     def hold(self, right, name, what):
         if not right:
@@ -379,6 +415,10 @@ class Case:
     def got_11(self):
         return all(self.lines[name].startswith("refused 11 ") for name in ("curve", "best"))
 
+    def has_delays(self):
+        """Whether curve and best list are given to a block with wire delays."""
+        return any(self.block.wire_delay.values()) and "refused" not in self.lines["curve"] + self.lines["best"]
+
     def has_to_choose(self):
         """Whether curve and best list are given, and spare lies within a curve of two pairs or more."""
         if "refused" in self.lines["curve"] + self.lines["best"]:
@@ -387,21 +427,40 @@ class Case:
         return len(widths) > 1 and 0 < self.block.spare() < sum(widths)
 
     def check_judging(self):
-        block = self.block
-        increases = [0] * block.n
+        increases = [0] * self.block.n
         if not self.lines["best"].startswith("refused"):
             saving, *increases = self.numbers("best", 1)
             self.expect("judge", str(saving))
-        self.expect("judge", answer(lambda: [block.judge(increases)]))
+        for name, words in self.judging(self.block, increases).items():
+            self.expect(name, words)
+        self.hold(self.beyond == self.block.widths(self.gate) + 1, "beyond", "one tick beyond the width was meant")
+
+    def judging(self, block, increases):
+        """The four lines that judging gives, where the list in hand is this."""
 
         def judged(g, increase):
             changed = increases[:g] + [increase] + increases[g + 1 :]
             return answer(lambda: [block.judge(changed)]).replace("refused ", "").replace(" ", ":")
 
-        self.expect("more", " ".join(judged(g, increases[g] + 1) for g in range(block.n)))
-        self.expect("beyond", judged(self.gate, self.beyond))
-        self.expect("largest", judged(self.gate, 2**32 - 1))
-        self.hold(self.beyond == block.widths(self.gate) + 1, "beyond", "one tick beyond the width was meant")
+        return {
+            "judge": answer(lambda: [block.judge(increases)]),
+            "more": " ".join(judged(g, increases[g] + 1) for g in range(block.n)),
+            "beyond": judged(self.gate, self.beyond),
+            "largest": judged(self.gate, 2**32 - 1),
+        }
+
+    def lines_with(self, block):
+        """The lines that another block of the same gates and wires would have. Of a larger one stay the best list, and of the
+        curve all but start."""
+        best, curve = settled(block)
+        best = best or self.lines["best"][: -len(" kept")]
+        start = block.longest([0] * block.n)
+        curve = curve or " ".join([str(start)] + self.lines["curve"].split(" ")[1:-1])
+        increases = [0] * block.n if best.startswith("refused") else list(map(int, best.split(" ")[1:]))
+        slacks = " ".join(map(str, block.slacks()))
+        lines = {"case": self.lines["case"], "slacks": slacks + " kept", "curve": curve + " kept", "best": best + " kept"}
+        lines.update(self.judging(block, increases))
+        return ["%s %s" % line for line in lines.items()]
 
 
 def wrong_numbers(words):
@@ -454,11 +513,41 @@ def wrong_places(lines):
     yield lines[:3] + ["best refused 11 0 kept"] + lines[4:]
 
 
+def mistaken_delays(block):
+    """The block, each time with a mistake in the delays of all wires, or of one: left out, counted twice, one of the two bytes
+    read, the bytes exchanged."""
+    delayed = [wire for wire in block.wires if block.wire_delay[wire]]
+    for wires in [delayed] + [[wire] for wire in delayed[:WIRES_MISTAKEN]]:
+        for wrong in (lambda d: 0, lambda d: 2 * d, lambda d: d % 256, lambda d: d // 256, lambda d: d % 256 * 256 + d // 256):
+            other = copy(block)
+            other.wire_delay = {**block.wire_delay, **{wire: wrong(block.wire_delay[wire]) for wire in wires}}
+            yield other
+
+
+def wrong_slacks(block, other):
+    """The slacks with the delays of another block only on the way to a gate, and only on the way behind it."""
+    none = [0] * block.n
+    yield slacks_between(other.lasts(none), block.arrival, block.required())
+    yield slacks_between(block.lasts(none), block.arrival, other.required())
+
+
+def wrong_delays(count, record, lines):
+    """The lines of a case, each time with all of them, or one of them, as mistaken wire delays would give them, where that
+    makes a difference."""
+    case = Case(count, record, lines)
+    for other in mistaken_delays(case.block):
+        wrong = case.lines_with(other)
+        each = [lines[:at] + [wrong[at]] + lines[at + 1 :] for at in range(len(lines))]
+        for slacks in wrong_slacks(case.block, other):
+            each.append(lines[:1] + ["slacks %s kept" % " ".join(map(str, slacks))] + lines[2:])
+        yield from (some for some in [wrong] + each if some != lines)
+
+
 def mistakes_noticed(stored, mistakes):
     """How many mistakes were put into a case. Each must be noticed."""
     count, record, lines = stored
     noticed = 0
-    for wrong in itertools.chain(wrong_lines(lines), mistakes(lines)):
+    for wrong in mistakes:
         try:
             Case(count, record, wrong).check()
         except Wrong:
@@ -483,25 +572,38 @@ def stored_cases(data, text):
         raise Wrong("%d records are answered of %d bytes, and %d answers given" % (count, len(data), len(starts) - 1))
 
 
+def put_mistakes(choosing, elevens, delayed):
+    """Puts mistakes into the last cases of each kind; returns how many were noticed, and how many of wire delays."""
+    kinds = [cases[-BLOCKS_MISTAKEN:] for cases in (choosing, elevens, delayed)]
+    if min(map(len, kinds)) < BLOCKS_MISTAKEN:
+        raise Wrong("there are too few blocks to put mistakes into")
+    choosing, elevens, delayed = kinds
+    noticed = sum(mistakes_noticed(stored, wrong_lines(stored[2])) for stored in choosing + elevens)
+    noticed += sum(mistakes_noticed(stored, wrong_answers(stored[2])) for stored in choosing)
+    noticed += sum(mistakes_noticed(stored, wrong_places(stored[2])) for stored in elevens)
+    of_delays = [mistakes_noticed(stored, wrong_delays(*stored)) for stored in delayed + choosing]
+    if not all(of_delays):
+        raise Wrong("no mistake of a wire's delay changes the lines of a block")
+    return noticed, sum(of_delays)
+
+
 def check_all(data, text):
-    """Holds every record to the lines printed for it; then puts mistakes into the last of the larger ones, both of those that
-    have to choose and of those that got 11."""
+    """Holds every record to the lines printed for it; then puts mistakes into the last of the larger ones that have to choose,
+    of the larger ones that got 11, and of the smaller ones with wire delays."""
     count = tried = 0
-    choosing, elevens = [], []
+    choosing, elevens, delayed = [], [], []
     for stored in stored_cases(data, text):
         case = Case(*stored)
         count += 1
         if case.check():
             tried += 1
+            delayed += [stored] if case.has_delays() else []
         elif case.got_11():
             elevens.append(stored)
         elif case.has_to_choose():
             choosing.append(stored)
-    if min(len(choosing), len(elevens)) < BLOCKS_MISTAKEN:
-        raise Wrong("there are too few larger blocks to put mistakes into")
-    noticed = sum(mistakes_noticed(stored, wrong_answers) for stored in choosing[-BLOCKS_MISTAKEN:])
-    noticed += sum(mistakes_noticed(stored, wrong_places) for stored in elevens[-BLOCKS_MISTAKEN:])
-    return "%d cases, %d of them by trying every list; %d mistakes put in were noticed" % (count, tried, noticed)
+    said = "%d cases, %d of them by trying every list; %d mistakes put in were noticed, and %d of wire delays"
+    return said % (count, tried, *put_mistakes(choosing, elevens, delayed))
 
 
 def main():

@@ -1,14 +1,15 @@
 """Small block files with what the reading of each comes to, by hand: number and place of the refusal, or the count of wires."""
 
 
-def head(n, high, low):
+def head(n, high, low, edition=1):
     """A block field of n gates, arrival and deadline 0, with the two bytes of p."""
-    return bytes([1, 0, 8, 1, n, 0, 0, 0, 0, high, low])
+    return bytes([1, 0, 8, edition, n, 0, 0, 0, 0, high, low])
 
 
 PLAIN = bytes([2, 0, 4, 0, 1, 0, 128])
 ONE = head(1, 0, 128)
 TWO = head(2, 0, 128) + PLAIN + PLAIN
+TWO_OF_EDITION_2 = head(2, 0, 128, 2) + PLAIN + PLAIN
 EQUAL_DROPS = bytes([2, 0, 12, 0, 1, 0, 128, 0, 2, 0, 5, 0, 3, 0, 5])
 
 SMALL_FILES = [
@@ -33,4 +34,18 @@ SMALL_FILES = [
     (TWO + bytes([3, 0, 2, 1, 1]), (6, 25)),
     (TWO + bytes([3, 0, 2, 0, 1, 3, 0, 2, 0, 1]), (6, 30)),
     (TWO + bytes([3, 0, 2, 0, 1, 3]), (1, 30)),
+    # editions 0 and 3; edition 2 with one gate, and with a wire of 256 ticks and of 4,095
+    (head(1, 0, 128, 0) + PLAIN, (4, 0)),
+    (head(1, 0, 128, 3) + PLAIN, (4, 0)),
+    (head(1, 0, 128, 2) + PLAIN, 0),
+    (TWO_OF_EDITION_2 + bytes([3, 0, 4, 0, 1, 1, 0]), 1),
+    (TWO_OF_EDITION_2 + bytes([3, 0, 4, 0, 1, 15, 255]), 1),
+    # a delay of 4,096; a wire of 2 bytes in edition 2, and one of 4 in edition 1; a body of 3 bytes
+    (TWO_OF_EDITION_2 + bytes([3, 0, 4, 0, 1, 16, 0]), (4, 25)),
+    (TWO_OF_EDITION_2 + bytes([3, 0, 2, 0, 1]), (3, 25)),
+    (TWO + bytes([3, 0, 4, 0, 1, 0, 0]), (3, 25)),
+    (TWO_OF_EDITION_2 + bytes([3, 0, 4, 0, 1, 0]), (1, 25)),
+    # a second wire with another delay, and with one that is out of range
+    (TWO_OF_EDITION_2 + bytes([3, 0, 4, 0, 1, 0, 5, 3, 0, 4, 0, 1, 0, 6]), (6, 32)),
+    (TWO_OF_EDITION_2 + bytes([3, 0, 4, 0, 1, 0, 5, 3, 0, 4, 0, 1, 16, 0]), (4, 32)),
 ]

@@ -2,13 +2,11 @@
 import sys
 from pathlib import Path
 
-# The programs read their input into a buffer of so many bytes.
-MOST_BYTES = 4096
 
-
-def store(given, said):
-    """With the argument DIR: writes the two files. With --check DIR: ends with a line if they are not what would be written."""
-    assert len(given) <= MOST_BYTES
+def store(given, said, most_bytes):
+    """With the argument DIR: writes the two files. With --check DIR: ends with a line if they are not what would be written.
+    The program reads its input into a buffer of so many bytes."""
+    assert len(given) <= most_bytes
     script, *words = sys.argv
     check = words[:1] == ["--check"]
     if len(words) != 1 + check:

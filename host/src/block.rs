@@ -1,10 +1,12 @@
-//! The block file (document 01, "The block file"): its numbers, reading with refusals 1 to 7, writing.
+//! The block file (document 01, "The block file"; document 02, K2): its numbers, reading with refusals 1 to 7, writing.
 
+pub const MAX_EDITION: u8 = 2;
 pub const MAX_GATES: usize = 64;
 pub const MAX_WIRES: usize = 256;
 pub const MAX_STEPS: usize = 8;
 pub const MAX_PROBABILITY: u32 = 256;
 pub const MAX_DELAY: u32 = 4_095;
+pub const MAX_WIRE_DELAY: u32 = 4_095;
 pub const MAX_WIDTH: u32 = 4_095;
 pub const MAX_DROP: u32 = 1_000;
 pub const MAX_TIME: u32 = 65_535;
@@ -31,21 +33,46 @@ impl Gate {
     }
 }
 
-/// A wire field.
+/// A wire field. In edition 1 the delay is 0.
 #[derive(Clone, Copy, Debug, PartialEq, Eq, PartialOrd, Ord, Hash)]
 pub struct Wire {
     pub from: usize,
     pub to: usize,
+    pub delay: u32,
+}
+
+impl Wire {
+    pub fn without_delay(from: usize, to: usize) -> Wire {
+        Wire { from, to, delay: 0 }
+    }
+
+    /// The two gates that it joins.
+    pub fn ends(&self) -> (usize, usize) {
+        (self.from, self.to)
+    }
+}
+
+/// Whether a wire with the same two ends stands among the wires, whatever its delay.
+pub fn stands_in(wires: &[Wire], wire: &Wire) -> bool {
+    wires.iter().any(|w| w.ends() == wire.ends())
 }
 
 /// All that a block file says. `p` is the input's probability.
 #[derive(Clone, Debug, PartialEq, Eq)]
 pub struct Block {
+    pub edition: u8,
     pub arrival: u32,
     pub deadline: u32,
     pub p: u32,
     pub gates: Vec<Gate>,
     pub wires: Vec<Wire>,
+}
+
+impl Block {
+    /// Whether some wire has a delay above 0.
+    pub fn is_delayed(&self) -> bool {
+        self.wires.iter().any(|w| w.delay > 0)
+    }
 }
 
 /// A refusal: its number in document 01's table, and its place.
@@ -63,8 +90,31 @@ fn two_bytes(bytes: &[u8], at: usize) -> u32 {
     u32::from(bytes[at]) * 256 + u32::from(bytes[at + 1])
 }
 
+/// Whether an edition's wires have a delay.
+fn has_wire_delays(edition: u8) -> bool {
+    edition >= 2
+}
+
+/// The length of a wire's body: two gates and, where the edition has one, the delay.
+pub fn wire_length(edition: u8) -> usize {
+    if has_wire_delays(edition) {
+        4
+    } else {
+        2
+    }
+}
+
+/// The delay in a wire's body of that length.
+fn wire_delay(edition: u8, body: &[u8]) -> u32 {
+    if has_wire_delays(edition) {
+        two_bytes(body, 2)
+    } else {
+        0
+    }
+}
+
 /// The body of the field at `offset`: short header (1), tag (2), length (3), short body (1), in this order.
-fn body(file: &[u8], offset: usize, tag: u8, length_fits: fn(usize) -> bool) -> Result<&[u8], Refusal> {
+fn body(file: &[u8], offset: usize, tag: u8, length_fits: impl Fn(usize) -> bool) -> Result<&[u8], Refusal> {
     if file.len() - offset < 3 {
         return refuse(1, offset);
     }
@@ -81,15 +131,16 @@ fn body(file: &[u8], offset: usize, tag: u8, length_fits: fn(usize) -> bool) -> 
     Ok(&file[offset + 3..offset + 3 + length])
 }
 
-/// The block field at the front: gate count, arrival, deadline, p.
-fn read_block_field(file: &[u8]) -> Result<(usize, u32, u32, u32), Refusal> {
+/// What the block field at the front says, and the gate count; the gates and wires are still to come.
+fn read_block_field(file: &[u8]) -> Result<(Block, usize), Refusal> {
     let body = body(file, 0, 1, |length| length == 8)?;
-    let (edition, gates) = (body[0], usize::from(body[1]));
+    let (edition, count) = (body[0], usize::from(body[1]));
     let (arrival, deadline, p) = (two_bytes(body, 2), two_bytes(body, 4), two_bytes(body, 6));
-    if edition != 1 || gates < 1 || gates > MAX_GATES || p > MAX_PROBABILITY {
+    let in_range = (1..=MAX_EDITION).contains(&edition) && (1..=MAX_GATES).contains(&count) && p <= MAX_PROBABILITY;
+    if !in_range {
         return refuse(4, 0);
     }
-    Ok((gates, arrival, deadline, p))
+    Ok((Block { edition, arrival, deadline, p, gates: Vec::new(), wires: Vec::new() }, count))
 }
 
 /// A gate field, and the offset behind it.
@@ -111,39 +162,38 @@ fn read_gate(file: &[u8], offset: usize) -> Result<(Gate, usize), Refusal> {
     Ok((gate, offset + 3 + body.len()))
 }
 
-/// A wire field of a block of `gates` gates, after the wires `before`, and the offset behind it.
-fn read_wire(file: &[u8], offset: usize, gates: usize, before: &[Wire]) -> Result<(Wire, usize), Refusal> {
-    if before.len() == MAX_WIRES {
+/// A wire field behind all that `block` says so far, and the offset behind it.
+fn read_wire(file: &[u8], offset: usize, block: &Block) -> Result<(Wire, usize), Refusal> {
+    if block.wires.len() == MAX_WIRES {
         return refuse(7, offset);
     }
-    let body = body(file, offset, 3, |length| length == 2)?;
-    let wire = Wire { from: usize::from(body[0]), to: usize::from(body[1]) };
-    if wire.from >= gates || wire.to >= gates {
+    let body = body(file, offset, 3, |length| length == wire_length(block.edition))?;
+    let (from, to) = (usize::from(body[0]), usize::from(body[1]));
+    let wire = Wire { from, to, delay: wire_delay(block.edition, body) };
+    if from.max(to) >= block.gates.len() || wire.delay > MAX_WIRE_DELAY {
         return refuse(4, offset);
     }
-    if wire.from == wire.to || before.contains(&wire) {
+    if from == to || stands_in(&block.wires, &wire) {
         return refuse(6, offset);
     }
-    Ok((wire, offset + 5))
+    Ok((wire, offset + 3 + body.len()))
 }
 
 /// What the file says, or the first of the refusals 1 to 7 that fits it.
 pub fn decode(file: &[u8]) -> Result<Block, Refusal> {
-    let (count, arrival, deadline, p) = read_block_field(file)?;
+    let (mut block, count) = read_block_field(file)?;
     let mut offset = 11;
-    let mut gates = Vec::new();
     for _ in 0..count {
         let (gate, behind) = read_gate(file, offset)?;
-        gates.push(gate);
+        block.gates.push(gate);
         offset = behind;
     }
-    let mut wires = Vec::new();
     while offset < file.len() {
-        let (wire, behind) = read_wire(file, offset, count, &wires)?;
-        wires.push(wire);
+        let (wire, behind) = read_wire(file, offset, &block)?;
+        block.wires.push(wire);
         offset = behind;
     }
-    Ok(Block { arrival, deadline, p, gates, wires })
+    Ok(block)
 }
 
 fn put_two_bytes(file: &mut Vec<u8>, number: u32) {
@@ -156,11 +206,22 @@ fn put_header(file: &mut Vec<u8>, tag: u8, length: usize) {
     put_two_bytes(file, length as u32);
 }
 
+fn put_wire(file: &mut Vec<u8>, edition: u8, wire: &Wire) {
+    put_header(file, 3, wire_length(edition));
+    file.push(u8::try_from(wire.from).expect("a gate number of one byte"));
+    file.push(u8::try_from(wire.to).expect("a gate number of one byte"));
+    if has_wire_delays(edition) {
+        put_two_bytes(file, wire.delay);
+    } else {
+        assert_eq!(wire.delay, 0, "edition 1 has no wire delays");
+    }
+}
+
 /// The file that says this. It tests no range, so that files with faults can be written too.
 pub fn encode(block: &Block) -> Vec<u8> {
     let mut file = Vec::new();
     put_header(&mut file, 1, 8);
-    file.push(1);
+    file.push(block.edition);
     file.push(u8::try_from(block.gates.len()).expect("a gate count of one byte"));
     put_two_bytes(&mut file, block.arrival);
     put_two_bytes(&mut file, block.deadline);
@@ -175,9 +236,7 @@ pub fn encode(block: &Block) -> Vec<u8> {
         }
     }
     for wire in &block.wires {
-        put_header(&mut file, 3, 2);
-        file.push(u8::try_from(wire.from).expect("a gate number of one byte"));
-        file.push(u8::try_from(wire.to).expect("a gate number of one byte"));
+        put_wire(&mut file, block.edition, wire);
     }
     file
 }

@@ -1,6 +1,8 @@
 //! Every refusal that a file can get, at its boundaries, and 11 with its place: each file with the answer of the best
 //! increases, by hand.
 
+pub mod edition_2;
+
 use crate::block::{encode, Block, Gate, Step, Wire};
 use crate::generate::{largest_gain, most_pairs, most_wires};
 use crate::worked::{diamond, paper_chain};
@@ -25,11 +27,15 @@ fn d() -> Vec<u8> {
     encode(&diamond(10))
 }
 
-/// D with the bytes from `at` on replaced.
-fn with(at: usize, bytes: &[u8]) -> Vec<u8> {
-    let mut file = d();
+/// The file with the bytes from `at` on replaced.
+fn replaced(mut file: Vec<u8>, at: usize, bytes: &[u8]) -> Vec<u8> {
     file[at..at + bytes.len()].copy_from_slice(bytes);
     file
+}
+
+/// D with the bytes from `at` on replaced.
+fn with(at: usize, bytes: &[u8]) -> Vec<u8> {
+    replaced(d(), at, bytes)
 }
 
 fn cut(length: usize) -> Vec<u8> {
@@ -48,19 +54,27 @@ fn gate(steps: &[(u32, u32)]) -> Gate {
 }
 
 fn block(gates: Vec<Gate>, wires: &[(usize, usize)]) -> Block {
-    let wires = wires.iter().map(|&(from, to)| Wire { from, to }).collect();
-    Block { arrival: 0, deadline: 100, p: 128, gates, wires }
+    let wires = wires.iter().map(|&(from, to)| Wire::without_delay(from, to)).collect();
+    Block { edition: 1, arrival: 0, deadline: 100, p: 128, gates, wires }
 }
 
 /// Plain gates, and these wires.
+fn plain(gates: usize, wires: &[(usize, usize)]) -> Block {
+    block(vec![gate(&[(2, 3)]); gates], wires)
+}
+
 fn wired(gates: usize, wires: &[(usize, usize)]) -> Vec<u8> {
-    encode(&block(vec![gate(&[(2, 3)]); gates], wires))
+    encode(&plain(gates, wires))
+}
+
+/// The wires of a chain of so many gates.
+fn in_series(gates: usize) -> Vec<(usize, usize)> {
+    (1..gates).map(|g| (g - 1, g)).collect()
 }
 
 /// A chain of so many gates.
 fn chain(gates: usize) -> Vec<u8> {
-    let wires: Vec<(usize, usize)> = (1..gates).map(|g| (g - 1, g)).collect();
-    wired(gates, &wires)
+    wired(gates, &in_series(gates))
 }
 
 fn lone(gate: Gate) -> Vec<u8> {
@@ -128,7 +142,7 @@ fn ranges() -> Vec<Boundary> {
     let delay = |delay| encode(&Block { deadline: 65_535, ..block(vec![Gate { delay, ..gate(&[]) }], &[]) });
     vec![
         refused("edition 0", with(3, &[0]), 4, 0),
-        refused("edition 2", with(3, &[2]), 4, 0),
+        refused("edition 2 with wires of 2 bytes", with(3, &[2]), 3, 55),
         refused("0 gates", with(4, &[0]), 4, 0),
         accepted("1 gate", chain(1)),
         accepted("64 gates", chain(64)),
@@ -269,7 +283,8 @@ fn high_bridges() -> Vec<Boundary> {
     ]
 }
 
-pub fn all() -> Vec<Boundary> {
+/// Boundaries of edition 1, and of what is no edition.
+pub fn edition_1() -> Vec<Boundary> {
     let mut all = short_fields();
     all.extend(tags_and_lengths());
     all.extend(ranges());
@@ -277,5 +292,11 @@ pub fn all() -> Vec<Boundary> {
     all.extend(networks());
     all.extend(bridges());
     all.extend(high_bridges());
+    all
+}
+
+pub fn all() -> Vec<Boundary> {
+    let mut all = edition_1();
+    all.extend(edition_2::all());
     all
 }

@@ -1,8 +1,9 @@
 //! The stored blocks of the program `cases`, and what it must print for them. host/CASES.md describes both.
 
 use crate::answers::{self, MAX_PAIRS};
-use crate::block::{encode, Block, Refusal, MAX_GATES};
-use crate::generate::{self, any_block, bridged_block, has_ties, Values, Wires, ALL_VALUES};
+use crate::block::{decode, encode, Block, Refusal, MAX_GATES};
+use crate::generate::{self, any_block, bridged_block, has_ties, with_wire_delays};
+use crate::generate::{Values, WireDelays, Wires, ALL_VALUES};
 use crate::random::Random;
 use crate::{boundaries, damage, exact, parts, search, timing, worked};
 use std::fmt::{Display, Write};
@@ -21,6 +22,8 @@ pub struct Case {
     pub lent_gains: usize,
     pub gate: usize,
     pub beyond: u32,
+    /// The number of the case that says the same in edition 1.
+    pub twin_of: Option<usize>,
 }
 
 /// Elements that the program has for slacks and increases, and for each half of the pairs.
@@ -37,7 +40,14 @@ impl Case {
                 (gate, block.gates[gate].widths() + 1)
             }
         };
-        Case { file, lent: MOST_LENT, lent_widths: MOST_LENT_PAIRS, lent_gains: MOST_LENT_PAIRS, gate, beyond }
+        let (lent, lent_widths, lent_gains) = (MOST_LENT, MOST_LENT_PAIRS, MOST_LENT_PAIRS);
+        Case { file, lent, lent_widths, lent_gains, gate, beyond, twin_of: None }
+    }
+
+    /// The same in edition 2 with wire delays 0, where the file can be read.
+    fn twin(&self, number: usize) -> Option<Case> {
+        let block = decode(&self.file).ok()?;
+        Some(Case { file: encode(&Block { edition: 2, ..block }), twin_of: Some(number), ..self.clone() })
     }
 
     /// The record that the program reads.
@@ -52,9 +62,9 @@ impl Case {
         record
     }
 
-    /// The lines that the program prints for it.
-    pub fn printed(&self, number: usize) -> String {
-        let mut text = format!("case {number}\n");
+    /// The lines that the program prints for it, but for the number.
+    pub fn answered(&self) -> String {
+        let mut text = String::new();
         let slacks = answers::slacks(&self.file, self.lent);
         let curve = answers::curve(&self.file, self.lent_widths, self.lent_gains);
         let best = answers::best_increases(&self.file, self.lent);
@@ -122,9 +132,8 @@ fn short_slices() -> Vec<Case> {
     cases
 }
 
-/// Diamond D cut at every byte, and with every byte changed.
-fn damaged_diamonds() -> Vec<Case> {
-    let file = encode(&worked::diamond(10));
+/// A file cut at every byte, and with every byte changed.
+fn damaged(file: Vec<u8>) -> Vec<Case> {
     let files = damage::every_cut(&file).into_iter().chain(damage::every_byte_changed(&file));
     files.enumerate().map(|(i, file)| Case::of(file, i)).collect()
 }
@@ -152,44 +161,109 @@ fn has_to_choose(block: &Block) -> bool {
     (1..earning as i64).contains(&timing::spare(block))
 }
 
-/// A series-parallel block of 8 to 12 gates, no chain, with just so many lists that all of them can be tried.
-fn searched_block(random: &mut Random, round: usize) -> Block {
+/// A series-parallel block of 8 to 12 gates, no chain, with just so many lists that all of them can be tried; in edition 2
+/// if its wires have delays.
+fn searched_block(random: &mut Random, round: usize, delays: Option<WireDelays>) -> Block {
     let kind = if round % 4 == 0 { Wires::Wide } else { Wires::SeriesParallel };
     let values = [Values::Small, Values::Equal, Values::Exhausted][round % 3];
     loop {
-        let block = generate::block(random, kind, values, 8 + round % 5, 2);
+        let mut block = generate::block(random, kind, values, 8 + round % 5, 2);
         let lists = search::count_of_lists(&block);
         let many = lists >= MOST_LISTS / 4 && lists <= MOST_LISTS && timing::all_paths(&block).len() > 2;
-        if many && has_to_choose(&block) && (values != Values::Equal || has_ties(&block)) {
+        if !many {
+            continue;
+        }
+        if let Some(delays) = delays {
+            block = with_wire_delays(random, block, delays);
+        }
+        if has_to_choose(&block) && (values != Values::Equal || has_ties(&block)) {
             return block;
         }
     }
 }
 
-/// Every stored case, in order.
-pub fn all() -> Vec<Case> {
+/// The cases of edition 1.
+fn edition_1() -> Vec<Case> {
     let random = &mut Random::from_seed(2_023);
     let searched = &mut Random::from_seed(8_012);
     let bridged = &mut Random::from_seed(464);
     let mut cases: Vec<Case> = Vec::new();
-    cases.extend(worked::all().into_iter().enumerate().map(|(i, w)| Case::of(w.file, i)));
-    cases.extend(boundaries::all().into_iter().enumerate().map(|(i, b)| Case::of(b.file, i)));
+    cases.extend(worked::edition_1().into_iter().enumerate().map(|(i, w)| Case::of(w.file, i)));
+    cases.extend(boundaries::edition_1().into_iter().enumerate().map(|(i, b)| Case::of(b.file, i)));
     cases.extend(short_slices());
-    cases.extend(damaged_diamonds());
+    cases.extend(damaged(encode(&worked::diamond(10))));
     cases.extend(small_blocks(random));
     cases.extend((0..300).map(|round| Case::of(encode(&large_block(random, round)), round)));
-    cases.extend((0..40).map(|round| Case::of(encode(&searched_block(searched, round)), round)));
+    cases.extend((0..40).map(|round| Case::of(encode(&searched_block(searched, round, None)), round)));
     cases.extend((0..40).map(|round| Case::of(encode(&bridged_block(bridged, 64)), round)));
     cases
 }
 
-/// What the program reads, and what it must print.
+/// A small block of any kind, whose lists can all be tried.
+fn small_block(random: &mut Random) -> Block {
+    loop {
+        let block = any_block(random, 7);
+        if search::count_of_lists(&block) <= MOST_LISTS {
+            return block;
+        }
+    }
+}
+
+/// One kind of wire delays after another.
+fn wire_delays(round: usize) -> WireDelays {
+    [WireDelays::Small, WireDelays::Middle, WireDelays::Any, WireDelays::Huge][round % 4]
+}
+
+/// The cases of edition 2 that are not also cases of edition 1.
+fn edition_2() -> Vec<Case> {
+    let random = &mut Random::from_seed(2_024);
+    let searched = &mut Random::from_seed(8_013);
+    let mut cases: Vec<Case> = Vec::new();
+    cases.extend(worked::edition_2().into_iter().enumerate().map(|(i, w)| Case::of(w.file, i)));
+    cases.extend(boundaries::edition_2::all().into_iter().enumerate().map(|(i, b)| Case::of(b.file, i)));
+    cases.extend(damaged(encode(&worked::delayed_diamond([1, 0, 0, 2]))));
+    let mut add = |block: &Block, round: usize| cases.push(Case::of(encode(block), round));
+    for round in 0..100 {
+        let block = small_block(random);
+        add(&with_wire_delays(random, block, wire_delays(round)), round);
+    }
+    for round in 0..40 {
+        add(&searched_block(searched, round, Some(wire_delays(round / 4))), round);
+    }
+    for round in 0..100 {
+        let block = large_block(random, round);
+        add(&with_wire_delays(random, block, wire_delays(round / 10)), round);
+    }
+    for round in 0..20 {
+        let block = bridged_block(random, 64);
+        add(&with_wire_delays(random, block, wire_delays(round)), round);
+    }
+    cases
+}
+
+/// Every stored case, in order.
+pub fn all() -> Vec<Case> {
+    let mut cases = edition_1();
+    let twins: Vec<Case> = cases.iter().enumerate().filter_map(|(number, case)| case.twin(number)).collect();
+    cases.extend(twins);
+    cases.extend(edition_2());
+    cases
+}
+
+/// What the program reads, and what it must print. A case of edition 2 that says the same as one of edition 1 is answered
+/// as that one.
 pub fn written(cases: &[Case]) -> (Vec<u8>, String) {
     let mut input = Vec::new();
     let mut output = String::new();
+    let mut answers: Vec<String> = Vec::new();
     for (number, case) in cases.iter().enumerate() {
+        let answered = case.answered();
+        if let Some(first) = case.twin_of {
+            assert_eq!(answered, answers[first], "case {number} and case {first}");
+        }
         input.extend(case.record());
-        output.push_str(&case.printed(number));
+        write!(output, "case {number}\n{answered}").unwrap();
+        answers.push(answered);
     }
     (input, output)
 }
@@ -200,10 +274,11 @@ pub fn places_of_11(output: &str) -> Vec<u32> {
     output.lines().filter_map(place).collect()
 }
 
-/// Holds the answers of small blocks to the exhaustive search; returns for how many blocks it did.
+/// Holds the answers of small blocks to the exhaustive search; returns for how many blocks it did. Those that are answered
+/// as another case need no search of their own.
 pub fn search_agrees(cases: &[Case]) -> usize {
     let mut count = 0;
-    for case in cases {
+    for case in cases.iter().filter(|case| case.twin_of.is_none()) {
         let Ok(block) = answers::well_formed(&case.file) else { continue };
         if search::count_of_lists(&block) > MOST_LISTS || block.wires.len() > MOST_WIRES {
             continue;

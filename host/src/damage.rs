@@ -1,5 +1,6 @@
 //! Damaged block files.
 
+use crate::block::wire_length;
 use crate::random::Random;
 
 /// The file cut short at every length.
@@ -24,11 +25,19 @@ pub fn every_byte_changed(file: &[u8]) -> Vec<Vec<u8>> {
     files
 }
 
-/// The file with one random damage.
+/// The file with its last bytes once more, as many as a wire field of its edition has.
+fn last_wire_twice(mut file: Vec<u8>) -> Vec<u8> {
+    let edition = file[3];
+    let wire = file.len() - 3 - wire_length(edition);
+    file.extend_from_within(wire..);
+    file
+}
+
+/// The file with one random damage. It is whole before.
 pub fn damaged(random: &mut Random, file: &[u8]) -> Vec<u8> {
     let mut file = file.to_vec();
     let at = random.below(file.len());
-    match random.below(7) {
+    match random.below(8) {
         0 => file.truncate(at),
         1 => file[at] = random.next() as u8,
         2 => file[at] = file[at].wrapping_add(random.pick(&[1, 255, 128])),
@@ -36,9 +45,11 @@ pub fn damaged(random: &mut Random, file: &[u8]) -> Vec<u8> {
         4 => {
             file.remove(at);
         }
-        5 => {
-            let wire = file[file.len().saturating_sub(5)..].to_vec();
-            file.extend(wire);
+        5 => file = last_wire_twice(file),
+        6 => {
+            // in edition 2 the same wire with another delay
+            file = last_wire_twice(file);
+            *file.last_mut().expect("a byte") ^= 1;
         }
         _ => {
             for _ in 0..1 + random.below(6) {

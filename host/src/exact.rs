@@ -3,7 +3,8 @@
 //! The greatest saving within T ticks is, by linear-programming duality, the least cost of a flow from the first gate's
 //! input to the last gate's output: the flow through a gate is what a tick costs there. A gate lets its least gain
 //! through at the length (delay + all widths), each further rise of gain at a length shorter by the step passed, and any
-//! amount at its drawn delay. The flow at T fills the longest paths as long as they are longer than T.
+//! amount at its drawn delay; a wire lets any amount through at its delay. The flow at T fills the longest paths as long as
+//! they are longer than T.
 //! The lists of greatest saving are then exactly those that agree with that flow (complementary slackness), which says of
 //! each list only how far two times may lie apart; so the first of them in the order of ties is found gate after gate
 //! with shortest distances. No part, no series, no parallel occurs here: the block need not be series-parallel.
@@ -42,7 +43,7 @@ impl<'a> Flow<'a> {
     fn empty(block: &'a Block) -> Flow<'a> {
         let mut flow = Flow { block, arcs: Vec::new(), out: vec![Vec::new(); 2 * block.gates.len()], total: 0 };
         for wire in &block.wires {
-            flow.add(2 * wire.from + 1, 2 * wire.to, UNBOUNDED, 0);
+            flow.add(2 * wire.from + 1, 2 * wire.to, UNBOUNDED, i64::from(wire.delay));
         }
         for (g, gate) in block.gates.iter().enumerate() {
             let mut length = i64::from(gate.delay);
@@ -138,9 +139,10 @@ fn agreeing(flow: &Flow, time: i64) -> Apart {
     let n = block.gates.len();
     let mut apart = Apart::free(2 * n);
     for (i, wire) in block.wires.iter().enumerate() {
-        apart.at_most(2 * wire.to, 2 * wire.from + 1, 0);
+        let delay = i64::from(wire.delay);
+        apart.at_most(2 * wire.to, 2 * wire.from + 1, -delay);
         if flow.on(2 * i) > 0 {
-            apart.at_most(2 * wire.from + 1, 2 * wire.to, 0);
+            apart.at_most(2 * wire.from + 1, 2 * wire.to, delay);
         }
     }
     for (g, gate) in block.gates.iter().enumerate() {

@@ -1,9 +1,10 @@
 //! Random blocks: networks of every kind, and values that press on one rule each.
 
-use crate::block::{encode, Block, Gate, Step, Wire};
-use crate::block::{MAX_DELAY, MAX_DROP, MAX_GATES, MAX_TIME, MAX_WIDTH, MAX_WIRES};
+use crate::block::{encode, stands_in, Block, Gate, Step, Wire};
+use crate::block::{MAX_DELAY, MAX_DROP, MAX_GATES, MAX_STEPS, MAX_TIME, MAX_WIDTH, MAX_WIRES, MAX_WIRE_DELAY};
 use crate::random::Random;
 use crate::{exact, merging, network, timing};
+use std::iter::repeat_with;
 
 /// What the numbers of a block are like.
 #[derive(Clone, Copy, Debug, PartialEq)]
@@ -38,13 +39,30 @@ pub enum Wires {
     Faulty,
 }
 
+/// What the delays of a block's wires are like (document 02, K2).
+#[derive(Clone, Copy, Debug, PartialEq)]
+pub enum WireDelays {
+    Zero,
+    /// A few ticks, so that branches are often equally long.
+    Small,
+    /// About as long as gates take.
+    Middle,
+    /// From none to the limit.
+    Any,
+    /// None, or at the limit.
+    Huge,
+}
+
+pub const ALL_WIRE_DELAYS: [WireDelays; 5] =
+    [WireDelays::Zero, WireDelays::Small, WireDelays::Middle, WireDelays::Any, WireDelays::Huge];
+
 /// Gives the gates between the first and the last random numbers, and the wires a random order.
 pub fn shuffled(random: &mut Random, gates: usize, wires: Vec<(usize, usize)>) -> Vec<Wire> {
     let mut number: Vec<usize> = (0..gates).collect();
     if gates > 2 {
         random.shuffle(&mut number[1..gates - 1]);
     }
-    let mut wires: Vec<Wire> = wires.iter().map(|&(a, b)| Wire { from: number[a], to: number[b] }).collect();
+    let mut wires: Vec<Wire> = wires.iter().map(|&(a, b)| Wire::without_delay(number[a], number[b])).collect();
     random.shuffle(&mut wires);
     wires
 }
@@ -88,8 +106,8 @@ fn nearly_series_parallel(random: &mut Random, gates: usize) -> Vec<Wire> {
     let order = timing::order(&block);
     for _ in 0..20 {
         let (a, b) = (random.below(gates), random.below(gates));
-        let wire = Wire { from: order[a.min(b)], to: order[a.max(b)] };
-        if a != b && !wires.contains(&wire) {
+        let wire = Wire::without_delay(order[a.min(b)], order[a.max(b)]);
+        if a != b && !stands_in(&wires, &wire) {
             if random.chance(1, 3) {
                 wires.swap_remove(random.below(block.wires.len()));
             }
@@ -143,9 +161,9 @@ fn faulty(random: &mut Random, gates: usize) -> Vec<Wire> {
         let at = random.below(wires.len().max(1));
         let any = random.below(gates);
         let added = match random.below(4) {
-            0 if at < wires.len() => Wire { from: wires[at].to, to: wires[at].from },
-            1 => Wire { from: any, to: 0 },
-            2 => Wire { from: gates - 1, to: any },
+            0 if at < wires.len() => Wire::without_delay(wires[at].to, wires[at].from),
+            1 => Wire::without_delay(any, 0),
+            2 => Wire::without_delay(gates - 1, any),
             _ => {
                 if at < wires.len() {
                     wires.swap_remove(at);
@@ -153,7 +171,7 @@ fn faulty(random: &mut Random, gates: usize) -> Vec<Wire> {
                 continue;
             }
         };
-        if added.from != added.to && !wires.contains(&added) {
+        if added.from != added.to && !stands_in(&wires, &added) {
             wires.push(added);
         }
     }
@@ -172,10 +190,10 @@ pub fn wires(random: &mut Random, kind: Wires, gates: usize) -> Vec<Wire> {
     }
 }
 
-/// A block of gates without delay and steps.
+/// A block of gates without delay and steps, in edition 1.
 pub fn bare_block(gates: usize, wires: Vec<Wire>) -> Block {
     let gate = Gate { delay: 0, p: 128, steps: Vec::new() };
-    Block { arrival: 0, deadline: 0, p: 128, gates: vec![gate; gates], wires }
+    Block { edition: 1, arrival: 0, deadline: 0, p: 128, gates: vec![gate; gates], wires }
 }
 
 /// So many steps: widths up to `widest`, drops up to `largest`, falling strictly.
@@ -243,7 +261,7 @@ pub fn set_times(random: &mut Random, block: &mut Block) {
     block.deadline = (i64::from(block.arrival) + start + spare).clamp(0, most_time) as u32;
 }
 
-/// A block of so many gates.
+/// A block of so many gates, in edition 1.
 pub fn block(random: &mut Random, kind: Wires, values: Values, gates: usize, most_steps: usize) -> Block {
     let wires = wires(random, kind, gates);
     let mut block = bare_block(gates, wires);
@@ -253,6 +271,47 @@ pub fn block(random: &mut Random, kind: Wires, values: Values, gates: usize, mos
     block.p = random.pick(&[128, 128, 77, 0, 256, 1]);
     set_times(random, &mut block);
     block
+}
+
+fn wire_delay(random: &mut Random, delays: WireDelays) -> u32 {
+    match delays {
+        WireDelays::Zero => 0,
+        WireDelays::Small => random.between(0, 3),
+        WireDelays::Middle => random.between(0, 60),
+        WireDelays::Any => random.between(0, MAX_WIRE_DELAY),
+        WireDelays::Huge => random.pick(&[0, 0, 0, 1, MAX_WIRE_DELAY - 1, MAX_WIRE_DELAY]),
+    }
+}
+
+/// Puts the block into edition 2, each wire with the next of the delays.
+pub fn delay_wires(block: &mut Block, delays: impl IntoIterator<Item = u32>) {
+    block.edition = 2;
+    for (wire, delay) in block.wires.iter_mut().zip(delays) {
+        wire.delay = delay;
+    }
+}
+
+/// The block in edition 2 with such delays of its wires, arrival and deadline set anew.
+pub fn with_wire_delays(random: &mut Random, mut block: Block, delays: WireDelays) -> Block {
+    delay_wires(&mut block, repeat_with(|| wire_delay(random, delays)));
+    set_times(random, &mut block);
+    block
+}
+
+/// The block as it is, or in edition 2 with delays of any kind.
+pub fn in_either_edition(random: &mut Random, block: Block) -> Block {
+    if random.chance(1, 2) {
+        return block;
+    }
+    let delays = random.pick(&ALL_WIRE_DELAYS);
+    with_wire_delays(random, block, delays)
+}
+
+/// Sets a deadline that leaves about half of the room, as far as a deadline can.
+fn halve_room(block: &mut Block) {
+    let widths: Vec<u32> = block.gates.iter().map(|g| g.widths()).collect();
+    let (start, end) = (timing::start(block), timing::longest(block, &widths));
+    block.deadline = ((start + end) / 2).min(u64::from(MAX_TIME)) as u32;
 }
 
 /// A block with every gate of exactly so many steps and about half of the room used: for measuring.
@@ -265,13 +324,18 @@ pub fn measured_block(random: &mut Random, gates: usize, wires: Vec<Wire>, step_
             gate.steps = steps(random, step_count, 20, MAX_DROP);
         }
     }
-    let widths: Vec<u32> = block.gates.iter().map(|g| g.widths()).collect();
-    let (start, end) = (timing::start(&block), timing::longest(&block, &widths));
-    block.deadline = ((start + end) / 2) as u32;
+    halve_room(&mut block);
     block
 }
 
-/// A block of any kind.
+/// A measured block in edition 2, with wire delays from 0 to `most`.
+pub fn measured_with_delays(random: &mut Random, mut measured: Block, most: u32) -> Block {
+    delay_wires(&mut measured, repeat_with(|| random.between(0, most)));
+    halve_room(&mut measured);
+    measured
+}
+
+/// A block of any kind, in edition 1.
 pub fn any_block(random: &mut Random, most_gates: usize) -> Block {
     let kinds = [
         Wires::SeriesParallel,
@@ -288,7 +352,7 @@ pub fn any_block(random: &mut Random, most_gates: usize) -> Block {
     block(random, kind, values, gates, most_steps)
 }
 
-/// A block with a bridge, of four gates or more.
+/// A block with a bridge, of four gates or more, in edition 1.
 pub fn bridged_block(random: &mut Random, most_gates: usize) -> Block {
     let values = random.pick(&ALL_VALUES);
     let gates = 4 + random.below(most_gates - 3);
@@ -296,13 +360,10 @@ pub fn bridged_block(random: &mut Random, most_gates: usize) -> Block {
     block(random, Wires::Bridged, values, gates, most_steps)
 }
 
-/// A block of any kind, every eighth one with a bridge, so that 11 comes at many places.
+/// A block of any kind in either edition, every eighth one with a bridge, so that 11 comes at many places.
 pub fn compared_block(random: &mut Random, most_gates: usize) -> Block {
-    if random.chance(1, 8) {
-        bridged_block(random, most_gates)
-    } else {
-        any_block(random, most_gates)
-    }
+    let block = if random.chance(1, 8) { bridged_block(random, most_gates) } else { any_block(random, most_gates) };
+    in_either_edition(random, block)
 }
 
 /// Whether a list later in the order of ties saves as much as the best: list merging, which heeds no order, returns one.
@@ -315,10 +376,10 @@ pub fn has_ties(block: &Block) -> bool {
 
 /// 63 wires lead into the last gate, p 128 each, drop 1,000: the largest gain of a pair.
 pub fn largest_gain() -> Block {
-    let mut wires = vec![Wire { from: 0, to: 63 }];
+    let mut wires = vec![Wire::without_delay(0, 63)];
     for gate in 1..63 {
-        wires.push(Wire { from: 0, to: gate });
-        wires.push(Wire { from: gate, to: 63 });
+        wires.push(Wire::without_delay(0, gate));
+        wires.push(Wire::without_delay(gate, 63));
     }
     let mut block = bare_block(64, wires);
     block.gates[63].steps = vec![Step { width: 2, drop: 1_000 }];
@@ -328,7 +389,7 @@ pub fn largest_gain() -> Block {
 
 /// A chain of 64 gates with 8 steps each, all of different gains: the most pairs that a curve can have.
 pub fn most_pairs() -> Block {
-    let wires = (1..64).map(|gate| Wire { from: gate - 1, to: gate }).collect();
+    let wires = (1..64).map(|gate| Wire::without_delay(gate - 1, gate)).collect();
     let mut block = bare_block(64, wires);
     for (g, gate) in block.gates.iter_mut().enumerate() {
         gate.delay = 1;
@@ -344,9 +405,23 @@ pub fn most_wires() -> Block {
     for gap in 1..64 {
         for from in 0..64 - gap {
             if wires.len() < MAX_WIRES {
-                wires.push(Wire { from, to: from + gap });
+                wires.push(Wire::without_delay(from, from + gap));
             }
         }
     }
     bare_block(64, wires)
+}
+
+/// The longest file: 64 gates of 8 steps and 256 wires, in edition 2. No two wires have the same delay. The wires between
+/// neighbours come last, so that a file cut short of them has gates without a wire in.
+pub fn largest_file() -> Vec<u8> {
+    let mut block = most_wires();
+    block.deadline = MAX_TIME;
+    block.wires.reverse();
+    for (g, gate) in block.gates.iter_mut().enumerate() {
+        gate.delay = MAX_DELAY - g as u32;
+        gate.steps = (0..MAX_STEPS as u32).map(|i| Step { width: MAX_WIDTH - i, drop: MAX_DROP - i }).collect();
+    }
+    delay_wires(&mut block, (0..).map(|i| MAX_WIRE_DELAY - 16 * i));
+    encode(&block)
 }

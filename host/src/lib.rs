@@ -1,5 +1,5 @@
-//! A second implementation of document 01 and of document 02's K1, written from their text: it says what the library under
-//! test should answer.
+//! A second implementation of document 01 and of document 02's K1 and K2, written from their text: it says what the library
+//! under test should answer.
 
 pub mod answers;
 pub mod apart;

@@ -1,9 +1,12 @@
 //! Whether a block is series-parallel (document 01, "A part from gate a to gate b ..."), decided twice; and which gates are
 //! left of it where it is not (document 02, K1).
 
-use crate::block::{Block, Wire};
+use crate::block::Block;
 use crate::random::Random;
 use std::collections::HashSet;
+
+/// The two gates that a wire joins; which parts there are does not depend on delays.
+type Ends = (usize, usize);
 
 /// A part: its two ends, and its wires and gates as sets of bits.
 #[derive(Clone, Copy, PartialEq, Eq, Hash)]
@@ -67,7 +70,7 @@ pub fn reduces(block: &Block) -> bool {
     if n == 1 {
         return block.wires.is_empty();
     }
-    let mut wires: HashSet<Wire> = block.wires.iter().copied().collect();
+    let mut wires: HashSet<Ends> = block.wires.iter().map(|w| w.ends()).collect();
     let mut left: Vec<usize> = (1..n - 1).collect();
     loop {
         let joined = left.iter().enumerate().find_map(|(i, &g)| Some((i, only_wires(&wires, g)?)));
@@ -75,15 +78,15 @@ pub fn reduces(block: &Block) -> bool {
         left.remove(i);
         wires.remove(&wire_in);
         wires.remove(&wire_out);
-        wires.insert(Wire { from: wire_in.from, to: wire_out.to });
+        wires.insert((wire_in.0, wire_out.1));
     }
-    left.is_empty() && wires.len() == 1 && wires.contains(&Wire { from: 0, to: n - 1 })
+    left.is_empty() && wires.len() == 1 && wires.contains(&(0, n - 1))
 }
 
 /// The wire in and the wire out of a gate that has one of each.
-fn only_wires(wires: &HashSet<Wire>, gate: usize) -> Option<(Wire, Wire)> {
-    let mut into = wires.iter().filter(|w| w.to == gate);
-    let mut out = wires.iter().filter(|w| w.from == gate);
+fn only_wires(wires: &HashSet<Ends>, gate: usize) -> Option<(Ends, Ends)> {
+    let mut into = wires.iter().filter(|w| w.1 == gate);
+    let mut out = wires.iter().filter(|w| w.0 == gate);
     let (wire_in, wire_out) = (into.next()?, out.next()?);
     (into.next().is_none() && out.next().is_none()).then_some((*wire_in, *wire_out))
 }
@@ -177,10 +180,11 @@ pub fn lowest_left(block: &Block, random: &mut Random) -> Option<usize> {
 #[cfg(test)]
 mod tests {
     use super::*;
+    use crate::block::Wire;
     use crate::generate::bare_block;
 
     fn network(gates: usize, wires: &[(usize, usize)]) -> Block {
-        bare_block(gates, wires.iter().map(|&(from, to)| Wire { from, to }).collect())
+        bare_block(gates, wires.iter().map(|&(from, to)| Wire::without_delay(from, to)).collect())
     }
 
     fn bridge() -> Block {

@@ -5,8 +5,8 @@ use crate::block::{Refusal, MAX_GATES};
 use crate::timing::{slacks, spare, start};
 use std::fmt::Write;
 
-/// The bytes of standard input that decide.
-pub const MAX_BYTES: usize = 4_096;
+/// The bytes of standard input that decide (document 02, K2).
+pub const MAX_BYTES: usize = 8_192;
 
 pub fn printout(input: &[u8]) -> String {
     let file = &input[..input.len().min(MAX_BYTES)];

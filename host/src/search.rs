@@ -1,7 +1,7 @@
 //! The best list, the best saving for every spare, and the curve, by trying every list. For small blocks.
 
 use crate::block::Block;
-use crate::timing::{all_paths, gain_of_tick};
+use crate::timing::{all_paths, gain_of_tick, path_delay};
 
 /// A list of increases and its saving.
 #[derive(Clone, Debug, PartialEq, Eq)]
@@ -53,12 +53,11 @@ impl Lists {
         let (gates, paths) = (0..block.gates.len(), all_paths(block));
         let gains_of = |g| (0..).map_while(|tick| gain_of_tick(block, g, tick)).collect();
         let through = |g| (0..paths.len()).filter(|&p| paths[p].contains(&g)).collect();
-        let lasts = |path: &Vec<usize>| path.iter().map(|&g| u64::from(block.gates[g].delay)).sum();
         Lists {
             gains: gates.clone().map(gains_of).collect(),
             paths_through: gates.clone().map(through).collect(),
             increases: vec![0; gates.len()],
-            lasts: paths.iter().map(lasts).collect(),
+            lasts: paths.iter().map(|path| path_delay(block, path)).collect(),
             saving: 0,
         }
     }

@@ -1,7 +1,8 @@
 //! The text form of a block file. host/README.md describes the syntax.
 
 use crate::block::{decode, Block, Gate, Refusal, Step, Wire};
-use crate::block::{MAX_DELAY, MAX_DROP, MAX_GATES, MAX_PROBABILITY, MAX_STEPS, MAX_TIME, MAX_WIDTH, MAX_WIRES};
+use crate::block::{MAX_DELAY, MAX_DROP, MAX_EDITION, MAX_GATES, MAX_PROBABILITY, MAX_STEPS, MAX_TIME, MAX_WIDTH};
+use crate::block::{MAX_WIRES, MAX_WIRE_DELAY};
 use std::fmt::Write;
 
 /// What is wrong with a description, and in which line, counted from 1.
@@ -89,8 +90,8 @@ impl<'a> Words<'a> {
         Ok(steps)
     }
 
-    /// A wire, as from-to.
-    fn wire(&self, word: &str, gates: usize) -> Result<Wire, Fault> {
+    /// The two gates of a wire, as from-to.
+    fn ends(&self, word: &str, gates: usize) -> Result<(usize, usize), Fault> {
         let Some((from, to)) = word.split_once('-') else {
             return fault(self.line, format!("a wire from-to was expected, not '{word}'"));
         };
@@ -104,13 +105,37 @@ impl<'a> Words<'a> {
         if from == to {
             return fault(self.line, format!("wire {word} joins a gate to itself"));
         }
-        Ok(Wire { from, to })
+        Ok((from, to))
+    }
+
+    /// A wire, as from-to or from-to:delay, and whether a delay stands there.
+    fn wire(&self, word: &str, gates: usize) -> Result<(Wire, bool), Fault> {
+        let (ends, delay) = word.split_once(':').map_or((word, None), |(ends, delay)| (ends, Some(delay)));
+        let (from, to) = self.ends(ends, gates)?;
+        let number = |delay| self.number(&format!("wire {ends}: delay"), delay, 0, MAX_WIRE_DELAY);
+        Ok((Wire { from, to, delay: delay.map_or(Ok(0), number)? }, delay.is_some()))
+    }
+
+    /// The edition that a block line ends with, if it says one.
+    fn edition(&mut self) -> Result<Option<u8>, Fault> {
+        match self.words.next() {
+            None => return Ok(None),
+            Some("edition") => {}
+            Some(word) => {
+                return fault(self.line, format!("'edition' or the end of the line was expected, not '{word}'"))
+            }
+        }
+        let word = self.word("the number after 'edition'")?;
+        let edition = self.number("edition", word, 1, u32::from(MAX_EDITION))?;
+        self.end()?;
+        Ok(Some(edition as u8))
     }
 }
 
-/// A description that is being read: the block so far, and the line of each wire.
+/// A description that is being read: the block so far, the edition that its block line says, and the line of each wire.
 struct Reading {
     block: Option<Block>,
+    edition: Option<u8>,
     wire_lines: Vec<usize>,
 }
 
@@ -129,8 +154,9 @@ impl Reading {
         let arrival = words.named("arrival", MAX_TIME)?;
         let deadline = words.named("deadline", MAX_TIME)?;
         let p = words.named("p", MAX_PROBABILITY)?;
-        words.end()?;
-        self.block = Some(Block { arrival, deadline, p, gates: Vec::new(), wires: Vec::new() });
+        self.edition = words.edition()?;
+        let edition = self.edition.unwrap_or(1);
+        self.block = Some(Block { edition, arrival, deadline, p, gates: Vec::new(), wires: Vec::new() });
         Ok(())
     }
 
@@ -160,12 +186,20 @@ impl Reading {
     }
 
     fn wires_line(&mut self, words: &mut Words) -> Result<(), Fault> {
-        let line = words.line;
+        let (line, stated) = (words.line, self.edition);
         while let Some(word) = words.words.next() {
             let block = self.begun(line)?;
-            let wire = words.wire(word, block.gates.len())?;
-            if let Some(before) = block.wires.iter().position(|w| *w == wire) {
-                return fault(line, format!("wire {word} stood before, in line {}", self.wire_lines[before]));
+            let (wire, has_delay) = words.wire(word, block.gates.len())?;
+            let (from, to) = wire.ends();
+            match (has_delay, stated) {
+                (true, Some(1)) => {
+                    return fault(line, format!("wire {word} has a delay, but the block line says edition 1"))
+                }
+                (true, None) => block.edition = 2,
+                _ => {}
+            }
+            if let Some(before) = block.wires.iter().position(|w| w.ends() == wire.ends()) {
+                return fault(line, format!("wire {from}-{to} stood before, in line {}", self.wire_lines[before]));
             }
             if block.wires.len() == MAX_WIRES {
                 return fault(line, format!("more than {MAX_WIRES} wires"));
@@ -179,7 +213,7 @@ impl Reading {
 
 /// The block that a description says.
 pub fn read(text: &str) -> Result<Block, Fault> {
-    let mut reading = Reading { block: None, wire_lines: Vec::new() };
+    let mut reading = Reading { block: None, edition: None, wire_lines: Vec::new() };
     let mut line = 0;
     for content in text.lines() {
         line += 1;
@@ -201,8 +235,11 @@ pub fn read(text: &str) -> Result<Block, Fault> {
 
 /// The description of a block.
 pub fn write(block: &Block) -> String {
-    let mut text = String::new();
-    writeln!(text, "block arrival {} deadline {} p {}", block.arrival, block.deadline, block.p).unwrap();
+    let mut text = format!("block arrival {} deadline {} p {}", block.arrival, block.deadline, block.p);
+    if block.edition > 1 {
+        write!(text, " edition {}", block.edition).unwrap();
+    }
+    text.push('\n');
     for (number, gate) in block.gates.iter().enumerate() {
         write!(text, "gate {} delay {} p {}", number, gate.delay, gate.p).unwrap();
         for (i, step) in gate.steps.iter().enumerate() {
@@ -215,6 +252,9 @@ pub fn write(block: &Block) -> String {
         text.push_str("wires");
         for wire in line {
             write!(text, " {}-{}", wire.from, wire.to).unwrap();
+            if wire.delay > 0 {
+                write!(text, ":{}", wire.delay).unwrap();
+            }
         }
         text.push('\n');
     }
@@ -248,7 +288,7 @@ pub fn explain(refusal: Refusal) -> String {
 mod tests {
     use super::*;
     use crate::block::encode;
-    use crate::generate::any_block;
+    use crate::generate::{any_block, in_either_edition};
     use crate::random::Random;
 
     fn message(text: &str) -> String {
@@ -258,12 +298,46 @@ mod tests {
 
     #[test]
     fn a_description_says_the_block_it_was_written_from() {
-        let mut random = Random::from_seed(11);
+        let random = &mut Random::from_seed(11);
+        let mut editions = [0; 3];
         for _ in 0..2_000 {
-            let block = any_block(&mut random, 64);
-            assert_eq!(read(&write(&block)), Ok(block.clone()));
+            let block = any_block(random, 64);
+            let block = in_either_edition(random, block);
+            editions[usize::from(block.edition)] += 1;
+            let text = write(&block);
+            assert_eq!(read(&text), Ok(block.clone()));
             assert_eq!(decode(&encode(&block)), Ok(block));
+            assert_eq!(write(&read(&text).unwrap()), text);
         }
+        assert!(editions[1] > 500 && editions[2] > 500, "{editions:?}");
+    }
+
+    /// Edition and wires of the description with this end of its block line and these wires.
+    fn edition_and_wires(end: &str, wires: &str) -> (u8, Vec<Wire>) {
+        let gates: String = (0..3).map(|g| format!("gate {g} delay 1 p 0\n")).collect();
+        let block = read(&format!("block arrival 0 deadline 9 p 128{end}\n{gates}{wires}")).expect("a description");
+        (block.edition, block.wires)
+    }
+
+    #[test]
+    fn a_delay_or_the_block_line_says_the_edition() {
+        let wires = |one, other| vec![Wire { from: 0, to: 1, delay: one }, Wire { from: 1, to: 2, delay: other }];
+        assert_eq!(edition_and_wires("", "wires 0-1 1-2"), (1, wires(0, 0)));
+        assert_eq!(edition_and_wires(" edition 1", "wires 0-1 1-2"), (1, wires(0, 0)));
+        assert_eq!(edition_and_wires(" edition 2", "wires 0-1 1-2"), (2, wires(0, 0)));
+        assert_eq!(edition_and_wires("", "wires 0-1 1-2:0"), (2, wires(0, 0)));
+        assert_eq!(edition_and_wires("", "wires 0-1:4095\nwires 1-2:7"), (2, wires(4_095, 7)));
+        assert_eq!(edition_and_wires(" edition 2 # long wires", "wires 0-1 1-2:256"), (2, wires(0, 256)));
+        assert_eq!(edition_and_wires(" edition 2", ""), (2, Vec::new()));
+    }
+
+    #[test]
+    fn a_written_description_says_edition_2_and_delays_above_0() {
+        let text = "block arrival 0 deadline 9 p 128 edition 2\ngate 0 delay 1 p 0\ngate 1 delay 1 p 0\nwires 0-1";
+        assert_eq!(write(&read(&format!("{text}:0")).unwrap()), format!("{text}\n"));
+        assert_eq!(write(&read(&format!("{text}:5")).unwrap()), format!("{text}:5\n"));
+        let edition_1 = text.replace(" edition 2", "");
+        assert_eq!(write(&read(&edition_1.replace("p 128", "p 128 edition 1")).unwrap()), format!("{edition_1}\n"));
     }
 
     #[test]
@@ -311,5 +385,30 @@ mod tests {
         assert_eq!(message(&format!("{two}wires 0-1\nwires 0-1")), "5: wire 0-1 stood before, in line 4");
         assert_eq!(message(&format!("{two}wires 0-1\ngate 2 delay 1 p 0")), "5: gates must come before wires");
         assert_eq!(message(&format!("{two}wires 01")), "4: a wire from-to was expected, not '01'");
+    }
+
+    #[test]
+    fn faults_of_delays_and_editions_name_their_line() {
+        let two =
+            |end: &str| format!("block arrival 0 deadline 9 p 128{end}\ngate 0 delay 1 p 0\ngate 1 delay 1 p 0\n");
+        let wires = |words: &str| message(&format!("{}wires {words}", two("")));
+        assert_eq!(wires("0-1:4096"), "4: wire 0-1: delay 4096 is not 0 to 4095");
+        assert_eq!(wires("0-1:"), "4: wire 0-1: delay: a number was expected, not ''");
+        assert_eq!(wires("0-1:x"), "4: wire 0-1: delay: a number was expected, not 'x'");
+        assert_eq!(wires("0-1:-5"), "4: wire 0-1: delay: a number was expected, not '-5'");
+        assert_eq!(wires("0-1:5:6"), "4: wire 0-1: delay: a number was expected, not '5:6'");
+        assert_eq!(wires("0:5-1"), "4: a wire from-to was expected, not '0'");
+        assert_eq!(wires("0-2:5"), "4: wire 0-2: there is no gate 2");
+        assert_eq!(wires("1-1:5"), "4: wire 1-1 joins a gate to itself");
+        assert_eq!(wires("0-1:5\nwires 0-1:6"), "5: wire 0-1 stood before, in line 4");
+        assert_eq!(wires("0-1:5 0-1"), "4: wire 0-1 stood before, in line 4");
+        assert_eq!(message(&two(" edition 3")), "1: edition 3 is not 1 to 2");
+        assert_eq!(message(&two(" edition 0")), "1: edition 0 is not 1 to 2");
+        assert_eq!(message(&two(" edition two")), "1: edition: a number was expected, not 'two'");
+        assert_eq!(message(&two(" edition")), "1: the number after 'edition' is missing at the end of the line");
+        assert_eq!(message(&two(" edition 2 2")), "1: '2' was not expected here");
+        assert_eq!(message(&two(" 2")), "1: 'edition' or the end of the line was expected, not '2'");
+        let says_1 = "4: wire 0-1:5 has a delay, but the block line says edition 1";
+        assert_eq!(message(&format!("{}wires 0-1:5", two(" edition 1"))), says_1);
     }
 }

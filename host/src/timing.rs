@@ -1,6 +1,7 @@
-//! Activities, gains, paths, slacks and judging (document 01, "Gains, paths, building up"). The block has no loop.
+//! Activities, gains, paths, slacks and judging (document 01, "Gains, paths, building up"; document 02, K2). The block has
+//! no loop.
 
-use crate::block::{refuse, Block, Refusal};
+use crate::block::{refuse, Block, Refusal, Wire};
 
 /// The activity of a net of probability p, scaled by 65,536.
 pub fn activity(p: u32) -> u64 {
@@ -64,6 +65,13 @@ pub fn all_paths(block: &Block) -> Vec<Vec<usize>> {
     done
 }
 
+/// How long a path lasts with no increase: its gates' delays and its wires'.
+pub fn path_delay(block: &Block, path: &[usize]) -> u64 {
+    let gates: u64 = path.iter().map(|&g| u64::from(block.gates[g].delay)).sum();
+    let on_path = |w: &&Wire| path.windows(2).any(|ends| w.ends() == (ends[0], ends[1]));
+    gates + block.wires.iter().filter(on_path).map(|w| u64::from(w.delay)).sum::<u64>()
+}
+
 /// The gates in an order in which every wire leads forward.
 pub fn order(block: &Block) -> Vec<usize> {
     let mut order: Vec<usize> = Vec::new();
@@ -79,7 +87,8 @@ pub fn order(block: &Block) -> Vec<usize> {
 pub fn source_delays(block: &Block, increases: &[u32]) -> Vec<u64> {
     let mut times = vec![0; block.gates.len()];
     for g in order(block) {
-        let before = block.wires.iter().filter(|w| w.to == g).map(|w| times[w.from]).max();
+        let into = block.wires.iter().filter(|w| w.to == g);
+        let before = into.map(|w| times[w.from] + u64::from(w.delay)).max();
         let delay = u64::from(block.gates[g].delay) + u64::from(increases[g]);
         times[g] = before.unwrap_or(u64::from(block.arrival)) + delay;
     }
@@ -91,7 +100,8 @@ pub fn required_times(block: &Block) -> Vec<i64> {
     let mut times = vec![i64::from(block.deadline); block.gates.len()];
     for &g in order(block).iter().rev() {
         let out = block.wires.iter().filter(|w| w.from == g);
-        if let Some(least) = out.map(|w| times[w.to] - i64::from(block.gates[w.to].delay)).min() {
+        let before_wire = |w: &Wire| times[w.to] - i64::from(block.gates[w.to].delay) - i64::from(w.delay);
+        if let Some(least) = out.map(before_wire).min() {
             times[g] = least;
         }
     }

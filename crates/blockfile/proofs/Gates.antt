@@ -39,12 +39,12 @@ gates-same g A =
       drops = kept-all (g * 8) (A .drops);
     }
 
-module _ {s : List ℕ} {o n : ℕ} {b : List ℕ} (j : Judged gate s o n b) (g : ℕ) where
-  pub gate-refused : (A : GateArrays) (x : Refusal) → (n ≡ 0 → ⊥) → refusal-answer x ≡ refusal n o → GateRead s o g A A (Refused x)
+module _ {s : List ℕ} {o ed n : ℕ} {b : List ℕ} (j : Judged (gate ed) s o n b) (g : ℕ) where
+  pub gate-refused : (A : GateArrays) (x : Refusal) → (n ≡ 0 → ⊥) → refusal-answer x ≡ refusal n o → GateRead s o ed g A A (Refused x)
   gate-refused A x z e = record { reading = ap (reading-map gate-of) (judged-refused j x z e); kept = gates-same g A; untouched = λ y f. refl }
 
-  pub gate-found : (old new : GateArrays) (q : ℕ) → n ≡ 0 → GateStored b g old new → q ≡ offset-behind s o → GateRead s o g old new (Read q)
-  gate-found old new q z r e = record { reading = rw (judged-found j z, r .stored, e); kept = r .kept; untouched = λ x f. absurd (read-not-refused q x f) }
+  pub gate-found : (old new : GateArrays) (q : ℕ) → n ≡ 0 → GateStored b g old new → q ≡ offset-behind s o → GateRead s o ed g old new (Read q)
+  gate-found old new q z r e = record { reading = rw (judged-found j z, r .stored ed, e); kept = r .kept; untouched = λ x f. absurd (read-not-refused q x f) }
 
 -- what was found or refused before it was seen through f
 module _ {A B : Type 0} (f : A → B) where
@@ -72,29 +72,29 @@ module _ {A B : Type 0} (f : A → B) where
       rw (x, y)
 
 -- The first i gates from p on were read up to o, and stand in the arrays.
-pub record GatesSoFar (s : List ℕ) (p i : ℕ) (A : GateArrays) (o : ℕ) : Type 0 where
+pub record GatesSoFar (ed : ℕ) (s : List ℕ) (p i : ℕ) (A : GateArrays) (o : ℕ) : Type 0 where
   pub drawn : List DrawnGate
-  pub were-read : read-gates i s p ≡ found drawn o
+  pub were-read : read-gates ed i s p ≡ found drawn o
   pub held : gates-held A i ≡ map gate-of drawn
   pub few : (g : ℕ) → g < i → getD (A .counts) g 0 ≤ max-steps
 
-pub gates-none : (s : List ℕ) (p : ℕ) (A : GateArrays) → GatesSoFar s p 0 A p
+pub gates-none : (ed : ℕ) (s : List ℕ) (p : ℕ) (A : GateArrays) → GatesSoFar ed s p 0 A p
 unfolding build
-gates-none s p A =
-    record { drawn = []; were-read = read-gates-none s p; held = refl; few = λ (g : ℕ) (h : g < 0). absurd (omega arith) }
+gates-none ed s p A =
+    record { drawn = []; were-read = read-gates-none ed s p; held = refl; few = λ (g : ℕ) (h : g < 0). absurd (omega arith) }
 
 -- a gate that was read has at most eight steps
-few-steps : (s : List ℕ) (o : ℕ) {d : DrawnGate} {q : ℕ} → read-field gate s o ≡ found d q → length (d .steps) ≤ max-steps
-few-steps s o e =
-    let f = found-is gate s o e in
-    let h = steps-said (body-at s o) (faultless-from-0 gate s o (f .no-fault) .length-due) in
+few-steps : (ed : ℕ) (s : List ℕ) (o : ℕ) {d : DrawnGate} {q : ℕ} → read-field (gate ed) s o ≡ found d q → length (d .steps) ≤ max-steps
+few-steps ed s o e =
+    let f = found-is (gate ed) s o e in
+    let h = steps-said ed (body-at s o) (faultless-from-0 (gate ed) s o (f .no-fault) .length-due) in
     rw (f .says-it) h
 
-module _ {s : List ℕ} {p i : ℕ} {A : GateArrays} {o : ℕ} (r : GatesSoFar s p i A o) where
+module _ {ed : ℕ} {s : List ℕ} {p i : ℕ} {A : GateArrays} {o : ℕ} (r : GatesSoFar ed s p i A o) where
   -- one more is read ..
-  pub gates-more : (B : GateArrays) (q : ℕ) → GateRead s o i A B (Read q) → GatesSoFar s p (i + 1) B q
+  pub gates-more : (B : GateArrays) (q : ℕ) → GateRead s o ed i A B (Read q) → GatesSoFar ed s p (i + 1) B q
   gates-more B q t =
-      let x = map-found gate-of (read-field gate s o) (gate-held B i) q (t .reading) in
+      let x = map-found gate-of (read-field (gate ed) s o) (gate-held B i) q (t .reading) in
       let k = t .kept in
       let same : StoredGates.GatesKept i (A .delays) (A .activities) (A .counts) (A .step-widths) (A .drops) (B .delays) (B .activities) (B .counts) (B .step-widths) (B .drops) =
       record { same-delays = k .delays; same-activities = k .activities; same-counts = k .counts; same-widths = k .step-widths; same-drops = k .drops } in
@@ -102,21 +102,21 @@ module _ {s : List ℕ} {p i : ℕ} {A : GateArrays} {o : ℕ} (r : GatesSoFar s
       sym (length-build (getD (B .counts) i 0) (step-at (B .step-widths) (B .drops) i)) ∙ ap (λ (g : Gate). length (g .steps)) (x .seen) in
       record {
         drawn = r .drawn ++ (x .value ∷ []);
-        were-read = read-gates-more s i p (r .were-read) (x .was-found);
+        were-read = read-gates-more ed s i p (r .were-read) (x .was-found);
         held = StoredGates.gate-stored i (A .delays) (A .activities) (A .counts) (A .step-widths) (A .drops) (B .delays) (B .activities) (B .counts) (B .step-widths) (B .drops) same (r .few) (r .drawn) (x .value) (r .held) (x .seen);
         few = λ (g : ℕ) (h : g < i + 1).
-            ⊎-elim (λ (e : g ≡ i). rw (e, steps) (few-steps s o (x .was-found)))
+            ⊎-elim (λ (e : g ≡ i). rw (e, steps) (few-steps ed s o (x .was-found)))
             (λ (l : g < i). rw (k .counts g l) (r .few g l))
             (eq-or-lt-of-le (omega arith));
       }
 
   -- .. or refused, and then all are
-  pub gates-refused : (n : ℕ) (B : GateArrays) (x : Refusal) → i < n → GateRead s o i A B (Refused x) → refusing x ≡ reading-map (map gate-of) (read-gates n s p)
+  pub gates-refused : (n : ℕ) (B : GateArrays) (x : Refusal) → i < n → GateRead s o ed i A B (Refused x) → refusing x ≡ reading-map (map gate-of) (read-gates ed n s p)
   gates-refused n B x h t =
-      sym (ap (reading-map (map gate-of)) (read-gates-refused s i n p h (r .were-read) (map-refused gate-of (read-field gate s o) (refusal-answer x .number) (getD (refusal-answer x .values) 0 0) (t .reading))))
+      sym (ap (reading-map (map gate-of)) (read-gates-refused ed s i n p h (r .were-read) (map-refused gate-of (read-field (gate ed) s o) (refusal-answer x .number) (getD (refusal-answer x .values) 0 0) (t .reading))))
 
   -- all are read
-  pub gates-all : (n : ℕ) → i ≡ n → found (gates-held A n) o ≡ reading-map (map gate-of) (read-gates n s p)
+  pub gates-all : (n : ℕ) → i ≡ n → found (gates-held A n) o ≡ reading-map (map gate-of) (read-gates ed n s p)
   gates-all n e = rw (← e, r .were-read, r .held)
 
 -- Arrays as long as those that were lent.

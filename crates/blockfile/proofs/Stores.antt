@@ -75,7 +75,7 @@ pub gate-stored : (b : List ℕ) (g : ℕ) (ds us cs ws ps ws′ ps′ : List �
     → GateStored b g (gate-arrays ds us cs ws ps) (gate-arrays (set ds g x) (set us g a) (set cs g k) ws′ ps′)
 gate-stored b g ds us cs ws ps ws′ ps′ x a k hd ha hc ex ea r =
     record {
-      stored = rw (
+      stored = λ (ed : ℕ). rw (
         getD-set-same ds g x 0 hd,
         getD-set-same us g a 0 ha,
         getD-set-same cs g k 0 hc,

@@ -1,13 +1,11 @@
 -- The whole file: what its block field, its gates and its wires were read to, is what `read-block` says.
 -- Assumes nothing.
 use mathlib.Core.Path.{_≡_, sym}
-use mathlib.Core.Bool.{_&&_}
 use mathlib.Core.List.{List, [], map}
 use Prim.Native.Nat.{ℕ, _≤_}
 use borrow.Author.Tests.{eqb-true}
-use lib.Dec.{T, leb, eqb, leb→le}
+use lib.Dec.{T}
 use lib.ListN.{length, getD}
-use Rattle.lists.proofs.Bool.{and-left, and-right}
 use Rattle.model.specs.declared.Refusal.{Refusal}
 use Rattle.model.specs.Limits.{max-wires}
 use Rattle.model.specs.Block.{Gate, Wire}
@@ -16,6 +14,7 @@ use Rattle.model.specs.Field.{number}
 use Rattle.model.specs.File.{block, says, in-range, found, read-field, read-gates, read-wires, decode, read-block, netlist}
 use Rattle.model.specs.Activity.{activity}
 use Rattle.model.specs.Answer.{refusal, refusal-answer}
+use Rattle.model.proofs.Limited.{header-limits}
 use Rattle.model.proofs.Reading.{read-gates-inside, decode-block-refused, decode-gates-refused, decode-wires-refused, decode-found}
 use Rattle.fields.specs.Behind.{offset-behind}
 use Rattle.blockfile.specs.Reads.{refusing, reading-map}
@@ -40,19 +39,10 @@ module _ {s : List ℕ} {m : ℕ} {b : List ℕ} (j : Judged block s 0 m b) wher
     pub eight-bytes : length b ≡ 8
     eight-bytes = eqb-true (length b) 8 (judged-fits j z)
 
-    -- the tests of `in-range` in their order
     pub gates-at-most : getD b 1 0 ≤ 64
     gates-at-most =
-        let h = says block b in
-        let t : T (in-range block h) = rw (judged-ranges j z) tt in
-        let one = eqb (h .edition) 1 in
-        let least = leb 1 (h .gate-count) in
-        let most = leb (h .gate-count) 64 in
-        let arrival = leb (h .arrival) 65535 in
-        let deadline = leb (h .deadline) 65535 in
-        let p = leb (h .probability) 256 in
-        leb→le (getD b 1 0) 64
-        (and-right (one && least) most (and-left (one && least && most) arrival (and-left (one && least && most && arrival) deadline (and-left (one && least && most && arrival && deadline) p t))))
+        let t : T (in-range block (says block b)) = rw (judged-ranges j z) tt in
+        header-limits (says block b) t .gates-most
 
     -- the gates begin behind the block field
     module _ {p : ℕ} (behind : p ≡ offset-behind s 0) where
@@ -60,25 +50,25 @@ module _ {s : List ℕ} {m : ℕ} {b : List ℕ} (j : Judged block s 0 m b) wher
       header = rw behind (judged-found j z)
 
       -- a gate is refused
-      pub block-gates-refused : (x : Refusal) → refusing x ≡ reading-map (map gate-of) (read-gates (getD b 1 0) s p) → refusing x ≡ read-block s
+      pub block-gates-refused : (x : Refusal) → refusing x ≡ reading-map (map gate-of) (read-gates (getD b 0 0) (getD b 1 0) s p) → refusing x ≡ read-block s
       block-gates-refused x e =
           whole-refused s x
-          (decode-gates-refused s header (map-refused (map gate-of) (read-gates (getD b 1 0) s p) (refusal-answer x .number) (getD (refusal-answer x .values) 0 0) e))
+          (decode-gates-refused s header (map-refused (map gate-of) (read-gates (getD b 0 0) (getD b 1 0) s p) (refusal-answer x .number) (getD (refusal-answer x .values) 0 0) e))
 
-      module _ (gs : List Gate) (q : ℕ) (g : found gs q ≡ reading-map (map gate-of) (read-gates (getD b 1 0) s p)) where
-        drawn : FoundBefore (map gate-of) (read-gates (getD b 1 0) s p) gs q
-        drawn = map-found (map gate-of) (read-gates (getD b 1 0) s p) gs q g
+      module _ (gs : List Gate) (q : ℕ) (g : found gs q ≡ reading-map (map gate-of) (read-gates (getD b 0 0) (getD b 1 0) s p)) where
+        drawn : FoundBefore (map gate-of) (read-gates (getD b 0 0) (getD b 1 0) s p) gs q
+        drawn = map-found (map gate-of) (read-gates (getD b 0 0) (getD b 1 0) s p) gs q g
 
         -- the wires begin within the file
         pub wires-from : q ≤ length s
-        wires-from = read-gates-inside s (getD b 1 0) p (rw behind (judged-inside j z)) (drawn .was-found)
+        wires-from = read-gates-inside (getD b 0 0) s (getD b 1 0) p (rw behind (judged-inside j z)) (drawn .was-found)
 
         -- a wire is refused
-        pub block-wires-refused : (x : Refusal) → refusing x ≡ read-wires max-wires (getD b 1 0) [] s q → refusing x ≡ read-block s
+        pub block-wires-refused : (x : Refusal) → refusing x ≡ read-wires max-wires (getD b 0 0) (getD b 1 0) [] s q → refusing x ≡ read-block s
         block-wires-refused x e = whole-refused s x (decode-wires-refused s header (drawn .was-found) (sym e))
 
         -- the block is found
-        pub block-found : (ws : List Wire) → found ws (length s) ≡ read-wires max-wires (getD b 1 0) [] s q
+        pub block-found : (ws : List Wire) → found ws (length s) ≡ read-wires max-wires (getD b 0 0) (getD b 1 0) [] s q
             → found (record { arrival = number b 2; deadline = number b 4; activity = activity (number b 6); gates = gs; wires = ws }) (length s) ≡ read-block s
         block-found ws e =
             rw (drawn .seen)

@@ -83,7 +83,7 @@ pub record StepsStored (steps : List ℕ) (g count : ℕ) (old-widths old-drops 
   pub widths-kept : Kept (g * max-steps) old-widths new-widths
   pub drops-kept : Kept (g * max-steps) old-drops new-drops
 
--- The body is stored as gate g, and the gates below are as they were. What stands above gate g is free.
+-- The body is stored as gate g, whatever the edition, and the gates below are as they were. What stands above gate g is free.
 pub record GateStored (body : List ℕ) (g : ℕ) (old new : GateArrays) : Type 0 where
-  pub stored : gate-held new g ≡ gate-of (says gate body)
+  pub stored : (edition : ℕ) → gate-held new g ≡ gate-of (says (gate edition) body)
   pub kept : GatesKept g old new

@@ -34,15 +34,15 @@ abbrev pub reading-map : {A B : Type 0} → (A → B) → Reading A → Reading 
 reading-map f (found a o) = found (f a) o
 reading-map f (refused k o) = refused k o
 
--- The gate field at o was read into place g, and the gates below are as they were; after a refusal all is. What stands above gate g, once it is read, is free.
-pub record GateRead (s : List ℕ) (o g : ℕ) (old new : GateArrays) (r : FieldRead) : Type 0 where
-  pub reading : passing r (gate-held new g) ≡ reading-map gate-of (read-field gate s o)
+-- The gate field of an edition at o was read into place g, and the gates below are as they were; after a refusal all is. What stands above gate g, once it is read, is free.
+pub record GateRead (s : List ℕ) (o edition g : ℕ) (old new : GateArrays) (r : FieldRead) : Type 0 where
+  pub reading : passing r (gate-held new g) ≡ reading-map gate-of (read-field (gate edition) s o)
   pub kept : GatesKept g old new
   pub untouched : (x : Refusal) → r ≡ Field.Refused x → new ≡ old
 
--- The wire field at o was read into place i, after the wires that the table holds, and the wires below are as they were; after a refusal all is, the table too. What stands above wire i, once it is read, is free.
-pub record WireRead (s : List ℕ) (o n i : ℕ) (old new : WireArrays) (table table′ : List ℕ) (r : FieldRead) : Type 0 where
-  pub reading : (ws : List Wire) → Marks table ws → passing r (wire-held new i) ≡ read-field (wire n ws) s o
+-- The wire field of an edition at o was read into place i, after the wires that the table holds, and the wires below are as they were; after a refusal all is, the table too. What stands above wire i, once it is read, is free.
+pub record WireRead (s : List ℕ) (o edition n i : ℕ) (old new : WireArrays) (table table′ : List ℕ) (r : FieldRead) : Type 0 where
+  pub reading : (ws : List Wire) → Marks table ws → passing r (wire-held new i) ≡ read-field (wire edition n ws) s o
   pub marked : (ws : List Wire) → Marks table ws → (next : ℕ) → r ≡ Field.Read next → Marks table′ (wire-held new i ∷ ws)
   pub kept : WiresKept i old new
   pub untouched : (x : Refusal) → r ≡ Field.Refused x → (new ≡ old) × (table′ ≡ table)

@@ -27,6 +27,7 @@ use model::activity::ActivityTable;
 use model::activity::activity_in;
 use model::activity::activity_table;
 use model::limits::MAX_WIRES;
+use ranges::edition::wire_delay;
 use ranges::seen::mark;
 
 // A field, or several, were read up to an offset, or refused.
@@ -53,10 +54,11 @@ pub enum BlockRead {
     Refused(Refusal),
 }
 
-// The gate field at an offset, read into place `gate`. After a refusal every array is as it was; after reading, what the arrays hold above the gate is free.
+// The gate field of an edition at an offset, read into place `gate`. After a refusal every array is as it was; after reading, what the arrays hold above the gate is free.
 fn read_gate(
     file: &[u8],
     offset: usize,
+    edition: u8,
     gate: usize,
     delays: &mut [u32],
     activities: &mut [u32],
@@ -68,10 +70,10 @@ fn read_gate(
     requires { ⌜ gate < max-gates ⌝ }
     requires { ⌜ GateRoom (gate-arrays (now delays) (now activities) (now counts) (now «step_widths») (now drops)) ⌝ }
     requires { ⌜ now table ≡ Activity.activities ⌝ }
-    ensures { λ r. ⌜ GateRead (now (file .entry)) offset gate (gate-arrays (now (delays .entry)) (now (activities .entry)) (now (counts .entry)) (now («step_widths» .entry)) (now (drops .entry))) (gate-arrays (now (delays .exit)) (now (activities .exit)) (now (counts .exit)) (now («step_widths» .exit)) (now (drops .exit))) r ⌝ }
+    ensures { λ r. ⌜ GateRead (now (file .entry)) offset edition gate (gate-arrays (now (delays .entry)) (now (activities .entry)) (now (counts .entry)) (now («step_widths» .entry)) (now (drops .entry))) (gate-arrays (now (delays .exit)) (now (activities .exit)) (now (counts .exit)) (now («step_widths» .exit)) (now (drops .exit))) r ⌝ }
 {
     let body = due_body(file, offset);
-    let fault = gate_fault(due_field(file, offset), body);
+    let fault = gate_fault(due_field(file, offset), body, edition);
     if fault != 0 {
         return FieldRead::Refused(refusal_of(fault, offset));
     }
@@ -94,6 +96,7 @@ fn read_gate(
 fn read_gates(
     file: &[u8],
     start: usize,
+    edition: u8,
     gates: usize,
     delays: &mut [u32],
     activities: &mut [u32],
@@ -105,7 +108,7 @@ fn read_gates(
     requires { ⌜ gates ≤ max-gates ⌝ }
     requires { ⌜ GateRoom (gate-arrays (now delays) (now activities) (now counts) (now «step_widths») (now drops)) ⌝ }
     requires { ⌜ now table ≡ Activity.activities ⌝ }
-    ensures { λ r. ⌜ passing r (gates-held (gate-arrays (now (delays .exit)) (now (activities .exit)) (now (counts .exit)) (now («step_widths» .exit)) (now (drops .exit))) gates) ≡ reading-map (map gate-of) (read-gates gates (now (file .entry)) start) ⌝ }
+    ensures { λ r. ⌜ passing r (gates-held (gate-arrays (now (delays .exit)) (now (activities .exit)) (now (counts .exit)) (now («step_widths» .exit)) (now (drops .exit))) gates) ≡ reading-map (map gate-of) (read-gates edition gates (now (file .entry)) start) ⌝ }
 {
     let mut offset = start;
     let mut gate = 0;
@@ -113,6 +116,7 @@ fn read_gates(
         let passed = read_gate(
             file,
             offset,
+            edition,
             gate,
             delays,
             activities,
@@ -138,6 +142,7 @@ fn read_gates(
 fn read_wire(
     file: &[u8],
     offset: usize,
+    edition: u8,
     gates: u8,
     wire: usize,
     sources: &mut [u32],
@@ -148,16 +153,16 @@ fn read_wire(
     requires { ⌜ (gates ≤ max-gates) × (wire < max-wires) ⌝ }
     requires { ⌜ WireRoom (wire-arrays (now sources) (now targets) (now «wire_delays»)) ⌝ }
     requires { ⌜ (pairs ≤ length (now seen)) × ((ws : List Wire) × Marks (now seen) ws) ⌝ }
-    ensures { λ r. ⌜ WireRead (now (file .entry)) offset gates wire (wire-arrays (now (sources .entry)) (now (targets .entry)) (now («wire_delays» .entry))) (wire-arrays (now (sources .exit)) (now (targets .exit)) (now («wire_delays» .exit))) (now (seen .entry)) (now (seen .exit)) r ⌝ }
+    ensures { λ r. ⌜ WireRead (now (file .entry)) offset edition gates wire (wire-arrays (now (sources .entry)) (now (targets .entry)) (now («wire_delays» .entry))) (wire-arrays (now (sources .exit)) (now (targets .exit)) (now («wire_delays» .exit))) (now (seen .entry)) (now (seen .exit)) r ⌝ }
 {
     let body = due_body(file, offset);
-    let fault = wire_fault(due_field(file, offset), body, gates, seen);
+    let fault = wire_fault(due_field(file, offset), body, edition, gates, seen);
     if fault != 0 {
         return FieldRead::Refused(refusal_of(fault, offset));
     }
     sources[wire] = wide(body[0]);
     targets[wire] = wide(body[1]);
-    wire_delays[wire] = 0;
+    wire_delays[wire] = wire_delay(edition, body);
     mark(seen, body[0], body[1]);
     FieldRead::Read {
         next: offset_behind(file, offset),
@@ -168,6 +173,7 @@ fn read_wire(
 fn read_wires(
     file: &[u8],
     start: usize,
+    edition: u8,
     gates: u8,
     sources: &mut [u32],
     targets: &mut [u32],
@@ -177,7 +183,7 @@ fn read_wires(
     requires { ⌜ (start ≤ length (now file)) × (gates ≤ max-gates) ⌝ }
     requires { ⌜ WireRoom (wire-arrays (now sources) (now targets) (now «wire_delays»)) ⌝ }
     requires { ⌜ (pairs ≤ length (now seen)) × Marks (now seen) [] ⌝ }
-    ensures { λ r. ⌜ wires-passing (now (file .entry)) r (wire-arrays (now (sources .exit)) (now (targets .exit)) (now («wire_delays» .exit))) ≡ read-wires max-wires gates [] (now (file .entry)) start ⌝ }
+    ensures { λ r. ⌜ wires-passing (now (file .entry)) r (wire-arrays (now (sources .exit)) (now (targets .exit)) (now («wire_delays» .exit))) ≡ read-wires max-wires edition gates [] (now (file .entry)) start ⌝ }
 {
     let mut offset = start;
     let mut wires = 0;
@@ -191,6 +197,7 @@ fn read_wires(
         let passed = read_wire(
             file,
             offset,
+            edition,
             gates,
             wires,
             sources,
@@ -249,10 +256,12 @@ pub fn read_block(
     if fault != 0 {
         return BlockRead::Refused(refusal_of(fault, 0));
     }
+    let edition = body[0];
     let gates = body[1];
     let passed = read_gates(
         file,
         offset_behind(file, 0),
+        edition,
         gates as usize,
         delays,
         activities,
@@ -264,7 +273,16 @@ pub fn read_block(
     match passed {
         FieldRead::Refused(refusal) => BlockRead::Refused(refusal),
         FieldRead::Read { next } => {
-            let ended = read_wires(file, next, gates, sources, targets, wire_delays, seen);
+            let ended = read_wires(
+                file,
+                next,
+                edition,
+                gates,
+                sources,
+                targets,
+                wire_delays,
+                seen,
+            );
             match ended {
                 WiresRead::Refused(refusal) => BlockRead::Refused(refusal),
                 WiresRead::Read { wires } => block_said(body, wires, &table),

@@ -1,7 +1,7 @@
 // Storing what a gate's body says, in arrays: gate g at place g, step j of gate g at place 8 g + j.
 ghost use mathlib.Core.Path.{_≡_};
 ghost use mathlib.Core.Bool.{true};
-ghost use Prim.Native.Nat.{_*_, _<_, _≤_, _%_};
+ghost use Prim.Native.Nat.{ℕ, _*_, _<_, _≤_, _%_};
 ghost use lib.ListN.{length};
 ghost use Rattle.model.specs.Limits.{max-gates, max-steps};
 ghost use Rattle.model.specs.Activity as Activity;
@@ -32,7 +32,7 @@ pub fn store_steps(steps: &[u8], gate: usize, step_widths: &mut [u32], drops: &m
     count as u32
 }
 
-// Stores a gate's body.
+// Stores a gate's body, in any edition.
 pub fn store_gate(
     body: &[u8],
     gate: usize,
@@ -43,7 +43,7 @@ pub fn store_gate(
     drops: &mut [u32],
     table: &ActivityTable,
 )
-    requires { ⌜ File.length-fits File.gate (length (now body)) ≡ true ⌝ }
+    requires { ⌜ ((edition : ℕ) × (File.length-fits (File.gate edition) (length (now body)) ≡ true)) ⌝ }
     requires { ⌜ gate < max-gates ⌝ }
     requires { ⌜ GateRoom (gate-arrays (now delays) (now activities) (now counts) (now «step_widths») (now drops)) ⌝ }
     requires { ⌜ now table ≡ Activity.activities ⌝ }

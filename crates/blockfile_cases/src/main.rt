@@ -1,5 +1,5 @@
 // Reads files with faults, and prints what `read_block` answers to each.
-// Standard input: the length of a block file (2 bytes), its bytes, then cases of 8 bytes: how many bytes are read (2), and two changes, each a place (2) and the byte to put there (1).
+// Standard input: groups, each the length of a block file (2 bytes), the number of its cases (2), the file's bytes, and the cases of 8 bytes each: how many bytes are read (2), and two changes, each a place (2) and the byte to put there (1).
 ghost use mathlib.Core.Path.{_≡_};
 ghost use lib.ListN.{length};
 use blockfile::read::BlockRead;
@@ -7,6 +7,14 @@ use blockfile::read::read_block;
 use fields::field::number_at;
 use libc::STDOUT_FILENO;
 use model::Refusal;
+use model::limits::GATES_SQUARED;
+use model::limits::MAX_BYTES;
+use model::limits::MAX_GATES;
+use model::limits::MAX_PAIRS;
+use model::limits::MAX_WIRES;
+
+// Bytes of the input, at most.
+const INPUT_BYTES: usize = 8192;
 
 // Prints a word and two numbers on a line of their own.
 fn print_refusal(number: u64, place: usize) {
@@ -20,6 +28,11 @@ fn print_refusal(number: u64, place: usize) {
 fn print_number(n: u64) {
     io::write_all(STDOUT_FILENO, b" ");
     io::print_decimal(STDOUT_FILENO, n);
+}
+
+// Prints a space and a wire's delay.
+fn print_delay(ticks: u32) {
+    print_number(ticks as u64);
 }
 
 // Prints a refusal of 1 to 7.
@@ -36,17 +49,17 @@ fn print_file_refusal(refusal: Refusal) {
     }
 }
 
-// Reads a file and prints the answer.
+// Reads a file and prints the answer, with the delay of the first wire where there is one.
 fn run(file: &[u8]) {
-    let mut delays = [0u32; 64];
-    let mut activities = [0u32; 64];
-    let mut counts = [0u32; 64];
-    let mut step_widths = [0u32; 512];
-    let mut drops = [0u32; 512];
-    let mut sources = [0u32; 256];
-    let mut targets = [0u32; 256];
-    let mut wire_delays = [0u32; 256];
-    let mut seen = [0u8; 4096];
+    let mut delays = [0u32; MAX_GATES];
+    let mut activities = [0u32; MAX_GATES];
+    let mut counts = [0u32; MAX_GATES];
+    let mut step_widths = [0u32; MAX_PAIRS];
+    let mut drops = [0u32; MAX_PAIRS];
+    let mut sources = [0u32; MAX_WIRES];
+    let mut targets = [0u32; MAX_WIRES];
+    let mut wire_delays = [0u32; MAX_WIRES];
+    let mut seen = [0u8; GATES_SQUARED];
     let answer = read_block(
         file,
         &mut delays,
@@ -74,6 +87,9 @@ fn run(file: &[u8]) {
             print_number(arrival as u64);
             print_number(deadline as u64);
             print_number(activity as u64);
+            if 0 < wires {
+                print_delay(wire_delays[0]);
+            }
             io::write_all(STDOUT_FILENO, b"\n");
         }
     }
@@ -102,34 +118,42 @@ fn change(file: &mut [u8], place: usize, byte: u8) {
 fn run_case(block: &[u8], case: &[u8])
     requires { ⌜ length (now case) ≡ 8 ⌝ }
 {
-    let mut file = [0u8; 4096];
+    let mut file = [0u8; MAX_BYTES];
     copy(block, &mut file);
     change(&mut file, number_at(case, 2) as usize, case[4]);
     change(&mut file, number_at(case, 5) as usize, case[7]);
     let size = number_at(case, 0) as usize;
-    if size <= 4096 {
+    if size <= MAX_BYTES {
         run(&file[..size]);
     }
 }
 
-// All cases of an input.
-fn run_all(input: &[u8]) {
-    if input.len() < 10 {
-        return;
-    }
-    let end = 2 + number_at(input, 0) as usize;
-    if input.len() - 8 < end {
-        return;
-    }
-    let mut at = end;
-    while at <= input.len() - 8 {
-        run_case(&input[2..end], &input[at..at + 8]);
+// All cases of a block.
+fn run_cases(block: &[u8], cases: &[u8]) {
+    let mut at: usize = 0;
+    while at + 8 <= cases.len() {
+        run_case(block, &cases[at..at + 8]);
         at += 8;
     }
 }
 
+// All groups of an input.
+fn run_all(input: &[u8]) {
+    let mut at: usize = 0;
+    while at + 4 <= input.len() {
+        let from = at + 4;
+        let to = from + number_at(input, at) as usize;
+        let end = to + 8 * number_at(input, at + 2) as usize;
+        if input.len() < end {
+            return;
+        }
+        run_cases(&input[from..to], &input[to..end]);
+        at = end;
+    }
+}
+
 fn main() {
-    let mut input = io::buffer();
+    let mut input = [0u8; INPUT_BYTES];
     let n = io::read_full(0, &mut input);
     run_all(&input[..n]);
 }

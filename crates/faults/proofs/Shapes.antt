@@ -18,10 +18,10 @@ abbrev content-of : (k : Due) → Value k → ℕ
 content-of k v = unless (in-range k v) 4 (unless (drops-fall k v) 5 (unless (is-fresh k v) 6 0))
 
 -- a wire's header is judged without the gate count and the wires before
-pub wire-shape : (n : ℕ) (ws : List Wire) (f : Field) (l : ℕ) → shape-of (wire 0 []) f l ≡ shape-of (wire n ws) f l
-wire-shape n ws NoHeader l = refl
-wire-shape n ws (NoBody tag len) l = refl
-wire-shape n ws (Whole tag a b) l = refl
+pub wire-shape : (ed n : ℕ) (ws : List Wire) (f : Field) (l : ℕ) → shape-of (wire ed 0 []) f l ≡ shape-of (wire ed n ws) f l
+wire-shape ed n ws NoHeader l = refl
+wire-shape ed n ws (NoBody tag len) l = refl
+wire-shape ed n ws (Whole tag a b) l = refl
 
 last-of : (t f : Bool) → unless t 2 (unless f 3 1) ≡ 0 → ⊥
 last-of true true e = omega arith

@@ -72,10 +72,10 @@ pub fn block_fault(field: Field, body: &[u8]) -> u32
 }
 
 // The fault of a field with its body where a gate is due.
-pub fn gate_fault(field: Field, body: &[u8]) -> u32
-    ensures { λ r. ⌜ r ≡ fault-of gate field (now (body .entry)) ⌝ }
+pub fn gate_fault(field: Field, body: &[u8], edition: u8) -> u32
+    ensures { λ r. ⌜ r ≡ fault-of (gate edition) field (now (body .entry)) ⌝ }
 {
-    let shape = shape_fault(Due::Gate, field, body.len());
+    let shape = shape_fault(Due::Gate { edition }, field, body.len());
     if shape != 0 {
         return shape;
     }
@@ -89,16 +89,16 @@ pub fn gate_fault(field: Field, body: &[u8]) -> u32
 }
 
 // The fault of a field with its body where a wire is due, after the wires that the table holds.
-pub fn wire_fault(field: Field, body: &[u8], gates: u8, seen: &[u8]) -> u32
+pub fn wire_fault(field: Field, body: &[u8], edition: u8, gates: u8, seen: &[u8]) -> u32
     requires { ⌜ gates ≤ max-gates ⌝ }
     requires { ⌜ pairs ≤ length (now seen) ⌝ }
-    ensures { λ r. ⌜ ((ws : List Wire) → Marks (now (seen .entry)) ws → r ≡ fault-of (wire gates ws) field (now (body .entry))) ⌝ }
+    ensures { λ r. ⌜ ((ws : List Wire) → Marks (now (seen .entry)) ws → r ≡ fault-of (wire edition gates ws) field (now (body .entry))) ⌝ }
 {
-    let shape = shape_fault(Due::Wire, field, body.len());
+    let shape = shape_fault(Due::Wire { edition }, field, body.len());
     if shape != 0 {
         return shape;
     }
-    if !wire_in_range(body, gates) {
+    if !wire_in_range(body, edition, gates) {
         return 4;
     }
     if is_fresh(body, seen) {

@@ -69,7 +69,7 @@ module _ (file : List ℕ) (n m arrival deadline activity : ℕ) (G : GateArrays
   wire-delay-most i h =
       let d = wire-at (W .sources) (W .targets) (W .delays) 0 in
       let is = getD-build m (wire-at (W .sources) (W .targets) (W .delays)) i d h in
-      omega (arith, limits .wire-limits i d (rw wires-are h) .undelayed, ap (λ (w : Wire). w .delay) is)
+      omega (arith, limits .wire-limits i d (rw wires-are h) .delay-most, ap (λ (w : Wire). w .delay) is)
 
   pub arrival-most : arrival ≤ max-time
   arrival-most = limits .arrival-most

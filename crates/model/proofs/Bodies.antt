@@ -1,31 +1,30 @@
 -- What the body of a field says, and the body that says it: each is got back from the other. A body is got back if it is of bytes and its length is one of its tag's.
+-- What differs by edition is one test, `has-wire-delays`: a law of a wire's body is proved for either outcome of it.
 -- Assumes nothing.
 use mathlib.Core.Path.{_≡_, refl, sym, _∙_, ap, subst}
 use mathlib.Core.List.{List, [], _∷_, _++_, flatMap}
-use mathlib.Core.Bool.{true, _&&_}
+use mathlib.Core.Bool.{Bool, true, false, cond, _&&_, _||_}
 use Prim.Native.Nat.{ℕ, zero, suc, _+_, _*_, _-_, _/_, _%_, _<_, _≤_}
 use native.Mathlib.Omega.{arith}
 use lib.Dec.{T, leb, eqb, leb→le, le→leb, eqb→eq}
 use lib.ListN.{length, getD, drop, length-drop}
 use lib.Seq.{ext-getD}
-use borrow.Author.Tests.{le-leb}
 use Rattle.lists.specs.Over.{build}
 use Rattle.lists.proofs.Bool.{and-left, and-right, and-both}
 use Rattle.lists.proofs.Over.{length-build, getD-build}
-use Rattle.model.proofs.Fields.{number-two-bytes, two-bytes-number, number-below, Bytes}
-use Rattle.model.proofs.Every.{and-true}
+use Rattle.model.proofs.Fields.{number-two-bytes, two-bytes-number, Bytes}
 use Rattle.model.proofs.Steps.{step-at, steps-by-index}
-use Rattle.model.specs.Limits.{max-gates, max-steps, max-probability, max-time}
+use Rattle.model.specs.Limits.{max-steps}
 use Rattle.model.specs.Block.{Step, Wire}
 use Rattle.model.specs.Netlist.{DrawnGate}
 use Rattle.model.specs.Field.{number, two-bytes}
-use Rattle.model.specs.File.{Due, block, gate, wire, Value, Header, length-fits, says, in-range, steps-in, header-body, step-bytes, gate-body, wire-body}
+use Rattle.model.specs.File.{Due, block, gate, wire, Value, Header, has-wire-delays, wire-bytes, delay-fits, length-fits, says, steps-in, header-body, step-bytes, gate-body, wire-body}
 
 -- the body of a field that says v
 abbrev pub body-of : (k : Due) → Value k → List ℕ
 body-of block h = header-body h
-body-of gate g = gate-body g
-body-of (wire n seen) w = wire-body w
+body-of (gate ed) g = gate-body g
+body-of (wire ed n seen) w = wire-body ed w
 
 -- FROM VALUE TO BODY AND BACK
 two-whole : (n : ℕ) → 256 * (n / 256) + n % 256 ≡ n
@@ -39,36 +38,48 @@ unfolding steps-in flatMap
 steps-in-bytes [] = refl
 steps-in-bytes (s ∷ ss) = rw (two-whole (s .width), two-whole (s .drop), steps-in-bytes ss)
 
-pub says-gate : (g : DrawnGate) → says gate (gate-body g) ≡ g
-says-gate g = rw (two-whole (g .delay), two-whole (g .probability), steps-in-bytes (g .steps))
+pub says-gate : (ed : ℕ) (g : DrawnGate) → says (gate ed) (gate-body g) ≡ g
+says-gate ed g = rw (two-whole (g .delay), two-whole (g .probability), steps-in-bytes (g .steps))
 
-pub says-wire : (n : ℕ) (seen : List Wire) (w : Wire) → w .delay ≡ 0 → says (wire n seen) (wire-body w) ≡ w
-says-wire n seen w e = λ i. record { source = w .source; target = w .target; delay = sym e i }
+delay-again : (b : Bool) (w : Wire) → T (b || eqb (w .delay) 0) → cond b (number (w .source ∷ w .target ∷ cond b (two-bytes (w .delay)) []) 2) 0 ≡ w .delay
+delay-again true w t = two-whole (w .delay)
+delay-again false w t = sym (eqb→eq (w .delay) 0 t)
+
+pub says-wire : (ed n : ℕ) (seen : List Wire) (w : Wire) → T (delay-fits ed w) → says (wire ed n seen) (wire-body ed w) ≡ w
+says-wire ed n seen w t = λ i. record { source = w .source; target = w .target; delay = delay-again (has-wire-delays ed) w t i }
 
 length-steps : (ss : List Step) → length (flatMap step-bytes ss) ≡ 4 * length ss
 unfolding flatMap
 length-steps [] = refl
 length-steps (s ∷ ss) = omega (arith, length-steps ss)
 
+-- the length of a wire's body
+length-by : (b : Bool) (w : Wire) → T (eqb (length (w .source ∷ w .target ∷ cond b (two-bytes (w .delay)) [])) (cond b 4 2))
+length-by true w = tt
+length-by false w = tt
+
+pub wire-length-fits : (ed n : ℕ) (seen : List Wire) (w : Wire) → T (length-fits (wire ed n seen) (length (wire-body ed w)))
+wire-length-fits ed n seen w = length-by (has-wire-delays ed) w
+
 -- the lengths of a gate's body
-steps-fit : (l k : ℕ) → l ≡ 4 + 4 * k → k ≤ max-steps → T (length-fits gate l)
-steps-fit l k e h =
+steps-fit : (ed l k : ℕ) → l ≡ 4 + 4 * k → k ≤ max-steps → T (length-fits (gate ed) l)
+steps-fit ed l k e h =
     let z : 0 ≡ l % 4 = omega arith in
     and-both (leb 4 l && leb l 36) (eqb (l % 4) 0)
     (and-both (leb 4 l) (leb l 36) (le→leb 4 l (omega arith)) (le→leb l 36 (omega arith)))
     (subst (λ (m : ℕ). T (eqb m 0)) z tt)
 
 -- so many steps fill the body of a gate field
-pub fitting-steps : (l : ℕ) → T (length-fits gate l) → (k : ℕ) × (l ≡ 4 + 4 * k) × (k ≤ max-steps)
-fitting-steps l t =
+pub fitting-steps : (ed l : ℕ) → T (length-fits (gate ed) l) → (k : ℕ) × (l ≡ 4 + 4 * k) × (k ≤ max-steps)
+fitting-steps ed l t =
     let a = and-left (leb 4 l && leb l 36) (eqb (l % 4) 0) t in
     let b : l % 4 ≡ 0 = eqb→eq (l % 4) 0 (and-right (leb 4 l && leb l 36) (eqb (l % 4) 0) t) in
     let c : 4 ≤ l = leb→le 4 l (and-left (leb 4 l) (leb l 36) a) in
     let d : l ≤ 36 = leb→le l 36 (and-right (leb 4 l) (leb l 36) a) in
     ((l - 4) / 4, omega arith, omega arith)
 
-pub gate-length-fits : (g : DrawnGate) → length (g .steps) ≤ max-steps → T (length-fits gate (length (gate-body g)))
-gate-length-fits g h = steps-fit (length (gate-body g)) (length (g .steps)) (omega (arith, length-steps (g .steps))) h
+pub gate-length-fits : (ed : ℕ) (g : DrawnGate) → length (g .steps) ≤ max-steps → T (length-fits (gate ed) (length (gate-body g)))
+gate-length-fits ed g h = steps-fit ed (length (gate-body g)) (length (g .steps)) (omega (arith, length-steps (g .steps))) h
 
 -- FROM BODY TO VALUE AND BACK
 elements : (b : List ℕ) (n : ℕ) → length b ≡ n → b ≡ build n (λ (i : ℕ). getD b i 0)
@@ -99,37 +110,40 @@ steps-again (a ∷ b ∷ c ∷ d ∷ rest) (suc k) bytes e =
     let r = steps-again rest k (λ (i : ℕ) (h : i < length rest). bytes (suc (suc (suc (suc i)))) (omega arith)) (omega arith) in
     λ i. p i ++ q i ++ r i
 
-gate-body-says : (b : List ℕ) (k : ℕ) → Bytes b → length b ≡ 4 + 4 * k → gate-body (says gate b) ≡ b
-gate-body-says [] k bytes e = absurd (omega arith)
-gate-body-says (a ∷ []) k bytes e = absurd (omega arith)
-gate-body-says (a ∷ b ∷ []) k bytes e = absurd (omega arith)
-gate-body-says (a ∷ b ∷ c ∷ []) k bytes e = absurd (omega arith)
-gate-body-says (a ∷ b ∷ c ∷ d ∷ rest) k bytes e =
+gate-body-says : (ed : ℕ) (b : List ℕ) (k : ℕ) → Bytes b → length b ≡ 4 + 4 * k → gate-body (says (gate ed) b) ≡ b
+gate-body-says ed [] k bytes e = absurd (omega arith)
+gate-body-says ed (a ∷ []) k bytes e = absurd (omega arith)
+gate-body-says ed (a ∷ b ∷ []) k bytes e = absurd (omega arith)
+gate-body-says ed (a ∷ b ∷ c ∷ []) k bytes e = absurd (omega arith)
+gate-body-says ed (a ∷ b ∷ c ∷ d ∷ rest) k bytes e =
     let p = two-bytes-number a b (bytes 0 (omega arith)) (bytes 1 (omega arith)) in
     let q = two-bytes-number c d (bytes 2 (omega arith)) (bytes 3 (omega arith)) in
     let r = steps-again rest k (λ (i : ℕ) (h : i < length rest). bytes (suc (suc (suc (suc i)))) (omega arith)) (omega arith) in
     λ i. p i ++ q i ++ r i
 
-pub body-of-says : (k : Due) (b : List ℕ) → Bytes b → T (length-fits k (length b)) → body-of k (says k b) ≡ b
+wire-body-by : (f : Bool) (b : List ℕ) → Bytes b → length b ≡ cond f 4 2 → getD b 0 0 ∷ getD b 1 0 ∷ cond f (two-bytes (cond f (number b 2) 0)) [] ≡ b
 unfolding build
+wire-body-by true b bytes e = (λ i. getD b 0 0 ∷ getD b 1 0 ∷ two-again b 2 bytes (omega arith) i) ∙ sym (elements b 4 e)
+wire-body-by false b bytes e = sym (elements b 2 e)
+
+pub body-of-says : (k : Due) (b : List ℕ) → Bytes b → T (length-fits k (length b)) → body-of k (says k b) ≡ b
 body-of-says block b bytes t = header-body-says b bytes (eqb→eq (length b) 8 t)
-body-of-says gate b bytes t =
-    let f = fitting-steps (length b) t in
-    gate-body-says b (f .0) bytes (f .1)
-body-of-says (wire n seen) b bytes t = sym (elements b 2 (eqb→eq (length b) 2 t))
+body-of-says (gate ed) b bytes t =
+    let f = fitting-steps ed (length b) t in
+    gate-body-says ed b (f .0) bytes (f .1)
+body-of-says (wire ed n seen) b bytes t = wire-body-by (has-wire-delays ed) b bytes (eqb→eq (length b) (wire-bytes ed) t)
 
 -- the steps that a body says are as many as its length tells
-pub steps-said : (b : List ℕ) → T (length-fits gate (length b)) → length (says gate b .steps) ≤ max-steps
-steps-said b t =
-    let f = fitting-steps (length b) t in
+pub steps-said : (ed : ℕ) (b : List ℕ) → T (length-fits (gate ed) (length b)) → length (says (gate ed) b .steps) ≤ max-steps
+steps-said ed b t =
+    let f = fitting-steps ed (length b) t in
     let e : length (drop 4 b) ≡ 4 * f .0 = omega (arith, length-drop 4 b, f .1) in
     omega (arith, ap length (steps-by-index (drop 4 b) (f .0) e), length-build (f .0) (step-at (drop 4 b)), f .2)
 
--- arrival and deadline of bytes are in range, so that a block field has four numbers to test
-pub block-in-range : (b : List ℕ) → Bytes b → in-range block (says block b)
-    ≡ eqb (getD b 0 0) 1 && leb 1 (getD b 1 0) && leb (getD b 1 0) max-gates && leb (number b 6) max-probability
-block-in-range b bytes =
-    let h : number b 2 ≤ max-time = omega (arith, number-below b 2 bytes) in
-    let k : number b 4 ≤ max-time = omega (arith, number-below b 4 bytes) in
-    let c = eqb (getD b 0 0) 1 && leb 1 (getD b 1 0) && leb (getD b 1 0) max-gates in
-    rw (le-leb (number b 2) max-time h, le-leb (number b 4) max-time k, and-true (c && true), and-true c)
+-- the delay that a body says is one that the edition can give a wire
+delay-fits-by : (f : Bool) (d : ℕ) → T (f || eqb (cond f d 0) 0)
+delay-fits-by true d = tt
+delay-fits-by false d = tt
+
+pub delay-said : (ed n : ℕ) (seen : List Wire) (b : List ℕ) → T (delay-fits ed (says (wire ed n seen) b))
+delay-said ed n seen b = delay-fits-by (has-wire-delays ed) (number b 2)

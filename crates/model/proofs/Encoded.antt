@@ -2,7 +2,7 @@
 -- Assumes nothing.
 use mathlib.Core.Path.{sym, subst}
 use mathlib.Core.List.{List, [], _∷_, _++_, flatMap}
-use mathlib.Core.Bool.{Bool, _&&_}
+use mathlib.Core.Bool.{Bool, true, false, cond, _&&_}
 use Prim.Native.Nat.{ℕ, _/_, _%_, _<_, _≤_}
 use native.Mathlib.Omega.{arith}
 use lib.Dec.{T, leb, ltb, ltb→lt, lt→ltb, leb→le}
@@ -11,12 +11,12 @@ use Rattle.lists.proofs.Bool.{and-left, and-right, and-both}
 use Rattle.model.proofs.Every.{every-append, every-at}
 use Rattle.model.proofs.Fields.{Bytes, high-byte, low-byte}
 use Rattle.model.proofs.Bodies.{fitting-steps, gate-length-fits}
-use Rattle.model.proofs.Limited.{HeaderLimits, step-limits, header-limits}
+use Rattle.model.proofs.Limited.{HeaderLimits, step-limits, header-limits, wire-ranges}
 use Rattle.model.specs.Limits.{max-steps, max-delay, max-probability, max-gates}
 use Rattle.model.specs.Block.{Step, Wire}
 use Rattle.model.specs.Netlist.{DrawnGate, Netlist}
 use Rattle.model.specs.Field.{two-bytes, field}
-use Rattle.model.specs.File.{Header, block, gate, wire, in-range, step-in-range, every, tag-of, header-of, header-body, step-bytes, gate-body, wire-body, encode, Limited}
+use Rattle.model.specs.File.{Header, block, gate, wire, has-wire-delays, in-range, step-in-range, every, tag-of, header-of, header-body, step-bytes, gate-body, wire-body, encode, Limited}
 
 byte : ℕ → Bool
 byte b = ltb b 256
@@ -63,30 +63,36 @@ step-of-bytes s t =
     joined (two-bytes (s .width)) (two-bytes (s .drop)) (two (s .width) (omega arith)) (two (s .drop) (omega arith))
 
 -- a gate with its numbers in range and few steps
-abbrev gate-fits : DrawnGate → Bool
-gate-fits g = in-range gate g && leb (length (g .steps)) max-steps
+abbrev gate-fits : ℕ → DrawnGate → Bool
+gate-fits ed g = in-range (gate ed) g && leb (length (g .steps)) max-steps
 
-gate-of-bytes : (g : DrawnGate) → T (gate-fits g) → OfBytes (field (tag-of gate) (gate-body g))
-gate-of-bytes g t =
-    let r : T (in-range gate g) = and-left (in-range gate g) (leb (length (g .steps)) max-steps) t in
-    let c : length (g .steps) ≤ max-steps = leb→le (length (g .steps)) max-steps (and-right (in-range gate g) (leb (length (g .steps)) max-steps) t) in
-    let k = fitting-steps (length (gate-body g)) (gate-length-fits g c) in
+gate-of-bytes : (ed : ℕ) (g : DrawnGate) → T (gate-fits ed g) → OfBytes (field (tag-of (gate ed)) (gate-body g))
+gate-of-bytes ed g t =
+    let r : T (in-range (gate ed) g) = and-left (in-range (gate ed) g) (leb (length (g .steps)) max-steps) t in
+    let c : length (g .steps) ≤ max-steps = leb→le (length (g .steps)) max-steps (and-right (in-range (gate ed) g) (leb (length (g .steps)) max-steps) t) in
+    let k = fitting-steps ed (length (gate-body g)) (gate-length-fits ed g c) in
     let a = leb (g .delay) max-delay in
     let b = leb (g .probability) max-probability in
     let e = every step-in-range (g .steps) in
     let d : g .delay ≤ max-delay = leb→le (g .delay) max-delay (and-left a b (and-left (a && b) e r)) in
     let p : g .probability ≤ max-probability = leb→le (g .probability) max-probability (and-right a b (and-left (a && b) e r)) in
-    field-of-bytes (tag-of gate) (gate-body g) (omega arith) (omega (arith, k .1, k .2))
+    field-of-bytes (tag-of (gate ed)) (gate-body g) (omega arith) (omega (arith, k .1, k .2))
     (joined (two-bytes (g .delay) ++ two-bytes (g .probability)) (flatMap step-bytes (g .steps))
     (joined (two-bytes (g .delay)) (two-bytes (g .probability)) (two (g .delay) (omega arith)) (two (g .probability) (omega arith)))
     (fields-of-bytes step-bytes step-in-range step-of-bytes (g .steps) (and-right (a && b) e r)))
 
-wire-of-bytes : (n : ℕ) → n ≤ max-gates → (w : Wire) → T (in-range (wire n []) w) → OfBytes (field (tag-of (wire 0 [])) (wire-body w))
-wire-of-bytes n h w t =
-    let a : w .source < n = ltb→lt (w .source) n (and-left (ltb (w .source) n) (ltb (w .target) n) t) in
-    let b : w .target < n = ltb→lt (w .target) n (and-right (ltb (w .source) n) (ltb (w .target) n) t) in
-    field-of-bytes 3 (wire-body w) (omega arith) (omega arith)
-    (one-more (w .source) (w .target ∷ []) (omega arith) (one-more (w .target) [] (omega arith) none))
+wire-body-of-bytes : (f : Bool) (w : Wire) → w .source < 256 → w .target < 256 → w .delay < 65536 → OfBytes (field 3 (w .source ∷ w .target ∷ cond f (two-bytes (w .delay)) []))
+wire-body-of-bytes true w a b d =
+    field-of-bytes 3 (w .source ∷ w .target ∷ two-bytes (w .delay)) (omega arith) (omega arith)
+    (one-more (w .source) (w .target ∷ two-bytes (w .delay)) a (one-more (w .target) (two-bytes (w .delay)) b (two (w .delay) d)))
+wire-body-of-bytes false w a b d =
+    field-of-bytes 3 (w .source ∷ w .target ∷ []) (omega arith) (omega arith)
+    (one-more (w .source) (w .target ∷ []) a (one-more (w .target) [] b none))
+
+wire-of-bytes : (ed n : ℕ) → n ≤ max-gates → (w : Wire) → T (in-range (wire ed n []) w) → OfBytes (field (tag-of (wire ed 0 [])) (wire-body ed w))
+wire-of-bytes ed n h w t =
+    let r = wire-ranges ed n [] w t in
+    wire-body-of-bytes (has-wire-delays ed) w (omega (arith, r .0)) (omega (arith, r .1)) (omega (arith, r .2))
 
 every-both : {A : Type 0} (p q : A → Bool) (xs : List A) → T (every p xs) → T (every q xs) → T (every (λ (x : A). p x && q x) xs)
 unfolding every
@@ -100,16 +106,17 @@ every-both p q (x ∷ xs) s t =
 pub encode-bytes : {N : Netlist} → Limited N → Bytes (encode N)
 unfolding encode byte
 encode-bytes {N} l i h =
+    let ed = N .edition in
     let n = length (N .gates) in
     let u = header-limits (header-of N) (l .header) in
     let head = field (tag-of block) (header-body (header-of N)) in
-    let gates = flatMap (λ (g : DrawnGate). field (tag-of gate) (gate-body g)) (N .gates) in
-    let wires = flatMap (λ (w : Wire). field (tag-of (wire 0 [])) (wire-body w)) (N .wires) in
+    let gates = flatMap (λ (g : DrawnGate). field (tag-of (gate ed)) (gate-body g)) (N .gates) in
+    let wires = flatMap (λ (w : Wire). field (tag-of (wire ed 0 [])) (wire-body ed w)) (N .wires) in
     let a : OfBytes head = field-of-bytes 1 (header-body (header-of N)) (omega arith) (omega arith) (header-of-bytes (header-of N) u) in
     let b : OfBytes gates =
-    fields-of-bytes (λ (g : DrawnGate). field (tag-of gate) (gate-body g)) gate-fits gate-of-bytes (N .gates)
-    (every-both (in-range gate) (λ (g : DrawnGate). leb (length (g .steps)) max-steps) (N .gates) (l .gates) (l .steps)) in
+    fields-of-bytes (λ (g : DrawnGate). field (tag-of (gate ed)) (gate-body g)) (gate-fits ed) (gate-of-bytes ed) (N .gates)
+    (every-both (in-range (gate ed)) (λ (g : DrawnGate). leb (length (g .steps)) max-steps) (N .gates) (l .gates) (l .steps)) in
     let c : OfBytes wires =
-    fields-of-bytes (λ (w : Wire). field (tag-of (wire 0 [])) (wire-body w)) (in-range (wire n [])) (wire-of-bytes n (u .gates-most)) (N .wires) (l .wires) in
+    fields-of-bytes (λ (w : Wire). field (tag-of (wire ed 0 [])) (wire-body ed w)) (in-range (wire ed n [])) (wire-of-bytes ed n (u .gates-most)) (N .wires) (l .wires) in
     ltb→lt (getD (encode N) i 0) 256
     (every-at byte (encode N) i 0 (joined (head ++ gates) wires (joined head gates a b) c) h)

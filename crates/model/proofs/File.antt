@@ -7,18 +7,18 @@ use mathlib.Core.Bool.{Bool}
 use Prim.Native.Nat.{ℕ, zero, suc, _≤_}
 use native.Mathlib.Nat.{not-suc-le-zero, le-of-suc-le-suc}
 use native.Mathlib.Omega.{arith}
-use lib.Dec.{T, leb, eqb, eqb→eq, leb→le, le→leb}
+use lib.Dec.{T, leb, leb→le, le→leb}
 use lib.ListN.{length, drop, length-drop, drop-of-length-le}
 use Rattle.lists.proofs.Bool.{and-left, and-right, and-both}
 use Rattle.model.proofs.Fields.{Bytes, bytes-body, stands-tag, stands-inside, stands-body, stands-next, whole-stands}
 use Rattle.model.proofs.Fault.{Faultless, faultless-is-0, faultless-from-0, read-found, found-is}
-use Rattle.model.proofs.Bodies.{body-of, says-header, says-gate, says-wire, gate-length-fits, body-of-says, steps-said}
+use Rattle.model.proofs.Bodies.{body-of, says-header, says-gate, says-wire, gate-length-fits, wire-length-fits, body-of-says, steps-said, delay-said}
 use Rattle.model.proofs.Reading.{read-gates-none, read-gates-first, read-gates-suc, read-wires-ended, read-wires-went-on, read-gates-length, WiresFound, ended, next, wires-found, decode-found, Decoded, decoded-is}
 use Rattle.model.specs.Limits.{max-wires, max-steps}
 use Rattle.model.specs.Block.{Wire}
 use Rattle.model.specs.Netlist.{DrawnGate, Netlist}
 use Rattle.model.specs.Field.{field, body-at, body-to}
-use Rattle.model.specs.File.{Due, block, gate, wire, Value, Header, found, tag-of, length-fits, says, in-range, drops-fall, is-fresh, every, read-field, read-gates, read-wires, decode, encode, netlist, header-of, gate-body, wire-body, all-fresh, fresh, Limited}
+use Rattle.model.specs.File.{Due, block, gate, wire, Value, Header, found, tag-of, delay-fits, length-fits, says, in-range, drops-fall, is-fresh, every, read-field, read-gates, read-wires, decode, encode, netlist, header-of, gate-body, wire-body, all-fresh, fresh, Limited}
 
 -- A FIELD OF ANY KIND. What v must satisfy for its field to be read where k is due.
 record Readable (k : Due) (v : Value k) : Type 0 where
@@ -59,110 +59,108 @@ found-stands k s o {v} {p} bytes e =
     rw (f .ends, b, ← h .tag-due) (whole-stands s o bytes (h .inside))
 
 -- FROM NETLIST TO FILE AND BACK
-abbrev gate-field : DrawnGate → List ℕ
-gate-field g = field (tag-of gate) (gate-body g)
+abbrev gate-field : ℕ → DrawnGate → List ℕ
+gate-field ed g = field (tag-of (gate ed)) (gate-body g)
 
-abbrev wire-field : Wire → List ℕ
-wire-field w = field (tag-of (wire 0 [])) (wire-body w)
+abbrev wire-field : ℕ → Wire → List ℕ
+wire-field ed w = field (tag-of (wire ed 0 [])) (wire-body ed w)
 
 -- at most as many steps as a gate may have
 abbrev few-steps : DrawnGate → Bool
 few-steps g = leb (length (g .steps)) max-steps
 
 -- gates within the limits
-record GatesFit (gs : List DrawnGate) : Type 0 where
-  ranges : T (every (in-range gate) gs)
+record GatesFit (ed : ℕ) (gs : List DrawnGate) : Type 0 where
+  ranges : T (every (in-range (gate ed)) gs)
   steps : T (every few-steps gs)
-  drops : T (every (drops-fall gate) gs)
+  drops : T (every (drops-fall (gate ed)) gs)
 
-first-gate-readable : {g : DrawnGate} {gs : List DrawnGate} → GatesFit (g ∷ gs) → Readable gate g
+first-gate-readable : {ed : ℕ} {g : DrawnGate} {gs : List DrawnGate} → GatesFit ed (g ∷ gs) → Readable (gate ed) g
 unfolding every
-first-gate-readable {g} {gs} f = record {
-  fits = gate-length-fits g (leb→le (length (g .steps)) max-steps (and-left (few-steps g) (every few-steps gs) (f .steps)));
-  said = says-gate g;
-  ranges = and-left (in-range gate g) (every (in-range gate) gs) (f .ranges);
-  drops = and-left (drops-fall gate g) (every (drops-fall gate) gs) (f .drops);
+first-gate-readable {ed} {g} {gs} f = record {
+  fits = gate-length-fits ed g (leb→le (length (g .steps)) max-steps (and-left (few-steps g) (every few-steps gs) (f .steps)));
+  said = says-gate ed g;
+  ranges = and-left (in-range (gate ed) g) (every (in-range (gate ed)) gs) (f .ranges);
+  drops = and-left (drops-fall (gate ed) g) (every (drops-fall (gate ed)) gs) (f .drops);
   unseen = tt;
 }
 
-rest-fits : {g : DrawnGate} {gs : List DrawnGate} → GatesFit (g ∷ gs) → GatesFit gs
+rest-fits : {ed : ℕ} {g : DrawnGate} {gs : List DrawnGate} → GatesFit ed (g ∷ gs) → GatesFit ed gs
 unfolding every
-rest-fits {g} {gs} f = record {
-  ranges = and-right (in-range gate g) (every (in-range gate) gs) (f .ranges);
+rest-fits {ed} {g} {gs} f = record {
+  ranges = and-right (in-range (gate ed) g) (every (in-range (gate ed)) gs) (f .ranges);
   steps = and-right (few-steps g) (every few-steps gs) (f .steps);
-  drops = and-right (drops-fall gate g) (every (drops-fall gate) gs) (f .drops);
+  drops = and-right (drops-fall (gate ed) g) (every (drops-fall (gate ed)) gs) (f .drops);
 }
 
 -- The gates are read from o on, and `back` is left.
-record GatesCome (gs : List DrawnGate) (s : List ℕ) (o : ℕ) (back : List ℕ) : Type 0 where
+record GatesCome (ed : ℕ) (gs : List DrawnGate) (s : List ℕ) (o : ℕ) (back : List ℕ) : Type 0 where
   end : ℕ
-  come : read-gates (length gs) s o ≡ found gs end
+  come : read-gates ed (length gs) s o ≡ found gs end
   left : drop end s ≡ back
   inside : end ≤ length s
 
-gates-come : (gs : List DrawnGate) (s : List ℕ) (o : ℕ) (back : List ℕ) → GatesFit gs → o ≤ length s → drop o s ≡ flatMap gate-field gs ++ back → GatesCome gs s o back
+gates-come : (ed : ℕ) (gs : List DrawnGate) (s : List ℕ) (o : ℕ) (back : List ℕ) → GatesFit ed gs → o ≤ length s → drop o s ≡ flatMap (gate-field ed) gs ++ back → GatesCome ed gs s o back
 unfolding flatMap
-gates-come [] s o back f h e = record { end = o; come = read-gates-none s o; left = e; inside = h }
-gates-come (g ∷ gs) s o back f h e =
-    let i : Stands gate g s o (flatMap gate-field gs ++ back) = e ∙ append-assoc (gate-field g) (flatMap gate-field gs) back in
-    let b : body-to s o ≤ length s = stands-inside s o (tag-of gate) (gate-body g) (flatMap gate-field gs ++ back) i in
-    let r = gates-come gs s (body-to s o) back (rest-fits f) b (stands-next s o (tag-of gate) (gate-body g) (flatMap gate-field gs ++ back) i) in
+gates-come ed [] s o back f h e = record { end = o; come = read-gates-none ed s o; left = e; inside = h }
+gates-come ed (g ∷ gs) s o back f h e =
+    let i : Stands (gate ed) g s o (flatMap (gate-field ed) gs ++ back) = e ∙ append-assoc (gate-field ed g) (flatMap (gate-field ed) gs) back in
+    let b : body-to s o ≤ length s = stands-inside s o (tag-of (gate ed)) (gate-body g) (flatMap (gate-field ed) gs ++ back) i in
+    let r = gates-come ed gs s (body-to s o) back (rest-fits f) b (stands-next s o (tag-of (gate ed)) (gate-body g) (flatMap (gate-field ed) gs ++ back) i) in
     record {
       end = r .end;
-      come = read-gates-first s (length gs) o (stands-read gate g s o (flatMap gate-field gs ++ back) i (first-gate-readable f)) (r .come);
+      come = read-gates-first ed s (length gs) o (stands-read (gate ed) g s o (flatMap (gate-field ed) gs ++ back) i (first-gate-readable f)) (r .come);
       left = r .left;
       inside = r .inside;
     }
 
-abbrev no-delay : Wire → Bool
-no-delay w = eqb (w .delay) 0
-
 -- wires within the limits, after those seen
-record WiresFit (n : ℕ) (seen ws : List Wire) : Type 0 where
-  ranges : T (every (in-range (wire n [])) ws)
-  undelayed : T (every no-delay ws)
+record WiresFit (ed n : ℕ) (seen ws : List Wire) : Type 0 where
+  ranges : T (every (in-range (wire ed n [])) ws)
+  delays : T (every (delay-fits ed) ws)
   unseen : T (all-fresh seen ws)
 
-first-wire-readable : {n : ℕ} {seen ws : List Wire} {w : Wire} → WiresFit n seen (w ∷ ws) → Readable (wire n seen) w
+first-wire-readable : {ed n : ℕ} {seen ws : List Wire} {w : Wire} → WiresFit ed n seen (w ∷ ws) → Readable (wire ed n seen) w
 unfolding every all-fresh
-first-wire-readable {n} {seen} {ws} {w} f = record {
-  fits = tt;
-  said = says-wire n seen w (eqb→eq (w .delay) 0 (and-left (no-delay w) (every no-delay ws) (f .undelayed)));
-  ranges = and-left (in-range (wire n []) w) (every (in-range (wire n [])) ws) (f .ranges);
+first-wire-readable {ed} {n} {seen} {ws} {w} f = record {
+  fits = wire-length-fits ed n seen w;
+  said = says-wire ed n seen w (and-left (delay-fits ed w) (every (delay-fits ed) ws) (f .delays));
+  ranges = and-left (in-range (wire ed n []) w) (every (in-range (wire ed n [])) ws) (f .ranges);
   drops = tt;
   unseen = and-left (fresh seen w) (all-fresh (w ∷ seen) ws) (f .unseen);
 }
 
-rest-wires-fit : {n : ℕ} {seen ws : List Wire} {w : Wire} → WiresFit n seen (w ∷ ws) → WiresFit n (w ∷ seen) ws
+rest-wires-fit : {ed n : ℕ} {seen ws : List Wire} {w : Wire} → WiresFit ed n seen (w ∷ ws) → WiresFit ed n (w ∷ seen) ws
 unfolding every all-fresh
-rest-wires-fit {n} {seen} {ws} {w} f = record {
-  ranges = and-right (in-range (wire n []) w) (every (in-range (wire n [])) ws) (f .ranges);
-  undelayed = and-right (no-delay w) (every no-delay ws) (f .undelayed);
+rest-wires-fit {ed} {n} {seen} {ws} {w} f = record {
+  ranges = and-right (in-range (wire ed n []) w) (every (in-range (wire ed n [])) ws) (f .ranges);
+  delays = and-right (delay-fits ed w) (every (delay-fits ed) ws) (f .delays);
   unseen = and-right (fresh seen w) (all-fresh (w ∷ seen) ws) (f .unseen);
 }
 
-wires-come : (ws : List Wire) (room n : ℕ) (seen : List Wire) (s : List ℕ) (o : ℕ) → WiresFit n seen ws → length ws ≤ room → o ≤ length s → drop o s ≡ flatMap wire-field ws → read-wires room n seen s o ≡ found ws (length s)
+wires-come : (ws : List Wire) (room ed n : ℕ) (seen : List Wire) (s : List ℕ) (o : ℕ) → WiresFit ed n seen ws → length ws ≤ room → o ≤ length s → drop o s ≡ flatMap (wire-field ed) ws → read-wires room ed n seen s o ≡ found ws (length s)
 unfolding flatMap
-wires-come [] room n seen s o f l h e =
+wires-come [] room ed n seen s o f l h e =
     let i : o ≡ length s = omega (arith, length-drop o s, ap length e) in
-    read-wires-ended n seen s o room (omega arith) ∙ ap (found []) i
-wires-come (w ∷ ws) zero n seen s o f l h e = absurd (not-suc-le-zero l)
-wires-come (w ∷ ws) (suc room) n seen s o f l h e =
-    let b : body-to s o ≤ length s = stands-inside s o (tag-of (wire n seen)) (wire-body w) (flatMap wire-field ws) e in
-    let r = wires-come ws room n (w ∷ seen) s (body-to s o) (rest-wires-fit f) (le-of-suc-le-suc l) b (stands-next s o (tag-of (wire n seen)) (wire-body w) (flatMap wire-field ws) e) in
-    read-wires-went-on n seen s o room (omega arith) (stands-read (wire n seen) w s o (flatMap wire-field ws) e (first-wire-readable f)) ∙ rw r
+    read-wires-ended ed n seen s o room (omega arith) ∙ ap (found []) i
+wires-come (w ∷ ws) zero ed n seen s o f l h e = absurd (not-suc-le-zero l)
+wires-come (w ∷ ws) (suc room) ed n seen s o f l h e =
+    let b : body-to s o ≤ length s = stands-inside s o (tag-of (wire ed n seen)) (wire-body ed w) (flatMap (wire-field ed) ws) e in
+    let r = wires-come ws room ed n (w ∷ seen) s (body-to s o) (rest-wires-fit f) (le-of-suc-le-suc l) b (stands-next s o (tag-of (wire ed n seen)) (wire-body ed w) (flatMap (wire-field ed) ws) e) in
+    read-wires-went-on ed n seen s o room (omega arith) (stands-read (wire ed n seen) w s o (flatMap (wire-field ed) ws) e (first-wire-readable f)) ∙ rw r
 
-decodes : (N : Netlist) (s : List ℕ) → Limited N → s ≡ field (tag-of block) (body-of block (header-of N)) ++ (flatMap gate-field (N .gates) ++ flatMap wire-field (N .wires)) → decode s ≡ found N (length s)
+decodes : (N : Netlist) (s : List ℕ) → Limited N → s ≡ field (tag-of block) (body-of block (header-of N)) ++ (flatMap (gate-field (N .edition)) (N .gates) ++ flatMap (wire-field (N .edition)) (N .wires)) → decode s ≡ found N (length s)
 decodes N s l e =
-    let rest : List ℕ = flatMap gate-field (N .gates) ++ flatMap wire-field (N .wires) in
+    let ed = N .edition in
+    let rest : List ℕ = flatMap (gate-field ed) (N .gates) ++ flatMap (wire-field ed) (N .wires) in
     let r : Readable block (header-of N) = record { fits = tt; said = says-header (header-of N); ranges = l .header; drops = tt; unseen = tt } in
     let h : read-field block s 0 ≡ found (header-of N) (body-to s 0) = stands-read block (header-of N) s 0 rest e r in
-    let g = gates-come (N .gates) s (body-to s 0) (flatMap wire-field (N .wires))
+    let g = gates-come ed (N .gates) s (body-to s 0) (flatMap (wire-field ed) (N .wires))
     (record { ranges = l .gates; steps = l .steps; drops = l .drops })
     (stands-inside s 0 (tag-of block) (body-of block (header-of N)) rest e)
     (stands-next s 0 (tag-of block) (body-of block (header-of N)) rest e) in
-    let w = wires-come (N .wires) max-wires (length (N .gates)) [] s (g .end)
-    (record { ranges = l .wires; undelayed = l .undelayed; unseen = l .no-wire-twice })
+    let w = wires-come (N .wires) max-wires ed (length (N .gates)) [] s (g .end)
+    (record { ranges = l .wires; delays = l .delays; unseen = l .no-wire-twice })
     (l .wire-count) (g .inside) (g .left) in
     decode-found s h (g .come) w
 
@@ -172,71 +170,71 @@ unfolding encode
 encode-decodes {N} l = decodes N (encode N) l refl
 
 -- FROM FILE TO NETLIST AND BACK
-first-gate-fits : (s : List ℕ) (o : ℕ) {g : DrawnGate} {gs : List DrawnGate} {p : ℕ} → read-field gate s o ≡ found g p → GatesFit gs → GatesFit (g ∷ gs)
+first-gate-fits : (ed : ℕ) (s : List ℕ) (o : ℕ) {g : DrawnGate} {gs : List DrawnGate} {p : ℕ} → read-field (gate ed) s o ≡ found g p → GatesFit ed gs → GatesFit ed (g ∷ gs)
 unfolding every
-first-gate-fits s o {g} {gs} e f =
-    let i = found-is gate s o e in
-    let h = faultless-from-0 gate s o (i .no-fault) in
-    let a : T (few-steps (says gate (body-at s o))) = le→leb (length (says gate (body-at s o) .steps)) max-steps (steps-said (body-at s o) (h .length-due)) in
+first-gate-fits ed s o {g} {gs} e f =
+    let i = found-is (gate ed) s o e in
+    let h = faultless-from-0 (gate ed) s o (i .no-fault) in
+    let a : T (few-steps (says (gate ed) (body-at s o))) = le→leb (length (says (gate ed) (body-at s o) .steps)) max-steps (steps-said ed (body-at s o) (h .length-due)) in
     record {
-      ranges = and-both (in-range gate g) (every (in-range gate) gs) (subst (λ (x : DrawnGate). T (in-range gate x)) (sym (i .says-it)) (h .ranges)) (f .ranges);
+      ranges = and-both (in-range (gate ed) g) (every (in-range (gate ed)) gs) (subst (λ (x : DrawnGate). T (in-range (gate ed) x)) (sym (i .says-it)) (h .ranges)) (f .ranges);
       steps = and-both (few-steps g) (every few-steps gs) (subst (λ (x : DrawnGate). T (few-steps x)) (sym (i .says-it)) a) (f .steps);
-      drops = and-both (drops-fall gate g) (every (drops-fall gate) gs) (subst (λ (x : DrawnGate). T (drops-fall gate x)) (sym (i .says-it)) (h .drops)) (f .drops);
+      drops = and-both (drops-fall (gate ed) g) (every (drops-fall (gate ed)) gs) (subst (λ (x : DrawnGate). T (drops-fall (gate ed) x)) (sym (i .says-it)) (h .drops)) (f .drops);
     }
 
-gates-fit : (n : ℕ) (s : List ℕ) (o : ℕ) {gs : List DrawnGate} {p : ℕ} → read-gates n s o ≡ found gs p → GatesFit gs
+gates-fit : (ed n : ℕ) (s : List ℕ) (o : ℕ) {gs : List DrawnGate} {p : ℕ} → read-gates ed n s o ≡ found gs p → GatesFit ed gs
 unfolding every read-gates
-gates-fit zero s o {gs} e =
+gates-fit ed zero s o {gs} e =
     let x : [] ≡ gs = cc in
-    subst GatesFit x (record { ranges = tt; steps = tt; drops = tt })
-gates-fit (suc n) s o e =
-    let f = read-gates-suc s n o e in
-    subst GatesFit (sym (f .all)) (first-gate-fits s o (f .first-read) (gates-fit n s (f .behind) (f .rest-read)))
+    subst (GatesFit ed) x (record { ranges = tt; steps = tt; drops = tt })
+gates-fit ed (suc n) s o e =
+    let f = read-gates-suc ed s n o e in
+    subst (GatesFit ed) (sym (f .all)) (first-gate-fits ed s o (f .first-read) (gates-fit ed n s (f .behind) (f .rest-read)))
 
-gates-again : (n : ℕ) (s : List ℕ) (o : ℕ) {gs : List DrawnGate} {p : ℕ} → Bytes s → read-gates n s o ≡ found gs p → drop o s ≡ flatMap gate-field gs ++ drop p s
+gates-again : (ed n : ℕ) (s : List ℕ) (o : ℕ) {gs : List DrawnGate} {p : ℕ} → Bytes s → read-gates ed n s o ≡ found gs p → drop o s ≡ flatMap (gate-field ed) gs ++ drop p s
 unfolding flatMap read-gates
-gates-again zero s o {gs} {p} bytes e =
+gates-again ed zero s o {gs} {p} bytes e =
     let x : gs ≡ [] = cc in
     let y : o ≡ p = cc in
     rw (x, y)
-gates-again (suc n) s o {gs} {p} bytes e =
-    let f = read-gates-suc s n o e in
-    found-stands gate s o bytes (f .first-read)
-    ∙ ap (λ (l : List ℕ). gate-field (f .first) ++ l) (gates-again n s (f .behind) bytes (f .rest-read))
-    ∙ sym (append-assoc (gate-field (f .first)) (flatMap gate-field (f .rest)) (drop p s))
-    ∙ ap (λ (l : List DrawnGate). flatMap gate-field l ++ drop p s) (sym (f .all))
+gates-again ed (suc n) s o {gs} {p} bytes e =
+    let f = read-gates-suc ed s n o e in
+    found-stands (gate ed) s o bytes (f .first-read)
+    ∙ ap (λ (l : List ℕ). gate-field ed (f .first) ++ l) (gates-again ed n s (f .behind) bytes (f .rest-read))
+    ∙ sym (append-assoc (gate-field ed (f .first)) (flatMap (gate-field ed) (f .rest)) (drop p s))
+    ∙ ap (λ (l : List DrawnGate). flatMap (gate-field ed) l ++ drop p s) (sym (f .all))
 
-first-wire-fits : (n : ℕ) (seen : List Wire) (s : List ℕ) (o : ℕ) {w : Wire} {ws : List Wire} {p : ℕ} → read-field (wire n seen) s o ≡ found w p → WiresFit n (w ∷ seen) ws → WiresFit n seen (w ∷ ws)
+first-wire-fits : (ed n : ℕ) (seen : List Wire) (s : List ℕ) (o : ℕ) {w : Wire} {ws : List Wire} {p : ℕ} → read-field (wire ed n seen) s o ≡ found w p → WiresFit ed n (w ∷ seen) ws → WiresFit ed n seen (w ∷ ws)
 unfolding every all-fresh
-first-wire-fits n seen s o {w} {ws} e f =
-    let i = found-is (wire n seen) s o e in
-    let h = faultless-from-0 (wire n seen) s o (i .no-fault) in
+first-wire-fits ed n seen s o {w} {ws} e f =
+    let i = found-is (wire ed n seen) s o e in
+    let h = faultless-from-0 (wire ed n seen) s o (i .no-fault) in
     record {
-      ranges = and-both (in-range (wire n []) w) (every (in-range (wire n [])) ws) (subst (λ (x : Wire). T (in-range (wire n []) x)) (sym (i .says-it)) (h .ranges)) (f .ranges);
-      undelayed = and-both (no-delay w) (every no-delay ws) (subst (λ (x : Wire). T (no-delay x)) (sym (i .says-it)) tt) (f .undelayed);
+      ranges = and-both (in-range (wire ed n []) w) (every (in-range (wire ed n [])) ws) (subst (λ (x : Wire). T (in-range (wire ed n []) x)) (sym (i .says-it)) (h .ranges)) (f .ranges);
+      delays = and-both (delay-fits ed w) (every (delay-fits ed) ws) (subst (λ (x : Wire). T (delay-fits ed x)) (sym (i .says-it)) (delay-said ed n seen (body-at s o))) (f .delays);
       unseen = and-both (fresh seen w) (all-fresh (w ∷ seen) ws) (subst (λ (x : Wire). T (fresh seen x)) (sym (i .says-it)) (h .unseen)) (f .unseen);
     }
 
-wires-fit : {n : ℕ} {s : List ℕ} {room : ℕ} {seen : List Wire} {o : ℕ} {ws : List Wire} {p : ℕ} → WiresFound n s room seen o ws p → WiresFit n seen ws
+wires-fit : {ed n : ℕ} {s : List ℕ} {room : ℕ} {seen : List Wire} {o : ℕ} {ws : List Wire} {p : ℕ} → WiresFound ed n s room seen o ws p → WiresFit ed n seen ws
 unfolding every all-fresh
-wires-fit (ended h) = record { ranges = tt; undelayed = tt; unseen = tt }
-wires-fit {n = n} {s = s} (next {seen = seen} {o = o} h e f) = first-wire-fits n seen s o e (wires-fit f)
+wires-fit (ended h) = record { ranges = tt; delays = tt; unseen = tt }
+wires-fit {ed = ed} {n = n} {s = s} (next {seen = seen} {o = o} h e f) = first-wire-fits ed n seen s o e (wires-fit f)
 
-wires-count : {n : ℕ} {s : List ℕ} {room : ℕ} {seen : List Wire} {o : ℕ} {ws : List Wire} {p : ℕ} → WiresFound n s room seen o ws p → length ws ≤ room
+wires-count : {ed n : ℕ} {s : List ℕ} {room : ℕ} {seen : List Wire} {o : ℕ} {ws : List Wire} {p : ℕ} → WiresFound ed n s room seen o ws p → length ws ≤ room
 wires-count (ended h) = omega arith
 wires-count (next h e f) = omega (arith, wires-count f)
 
-wires-again : {n : ℕ} {s : List ℕ} {room : ℕ} {seen : List Wire} {o : ℕ} {ws : List Wire} {p : ℕ} → Bytes s → WiresFound n s room seen o ws p → drop o s ≡ flatMap wire-field ws
+wires-again : {ed n : ℕ} {s : List ℕ} {room : ℕ} {seen : List Wire} {o : ℕ} {ws : List Wire} {p : ℕ} → Bytes s → WiresFound ed n s room seen o ws p → drop o s ≡ flatMap (wire-field ed) ws
 unfolding flatMap
 wires-again {s = s} bytes (ended h) = drop-of-length-le s h
-wires-again {n = n} {s = s} bytes (next {seen = seen} {o = o} {w = w} h e f) =
-    found-stands (wire n seen) s o bytes e ∙ ap (λ (l : List ℕ). wire-field w ++ l) (wires-again bytes f)
+wires-again {ed = ed} {n = n} {s = s} bytes (next {seen = seen} {o = o} {w = w} h e f) =
+    found-stands (wire ed n seen) s o bytes e ∙ ap (λ (l : List ℕ). wire-field ed w ++ l) (wires-again bytes f)
 
 -- the header of the netlist found is the header found
 header-again : (s : List ℕ) {N : Netlist} {o : ℕ} (d : Decoded s N o) → header-of (netlist (d .header) (d .gates) (d .wires)) ≡ d .header
 header-again s d = λ i. record {
   edition = d .header .edition;
-  gate-count = read-gates-length s (d .header .gate-count) (d .gates-at) (d .gates-read) i;
+  gate-count = read-gates-length (d .header .edition) s (d .header .gate-count) (d .gates-at) (d .gates-read) i;
   arrival = d .header .arrival;
   deadline = d .header .deadline;
   probability = d .header .probability;
@@ -247,33 +245,35 @@ pub decoded-is-encode : (s : List ℕ) {N : Netlist} {o : ℕ} → Bytes s → d
 unfolding encode
 decoded-is-encode s {N} {o} bytes e =
     let d = decoded-is s e in
+    let ed = d .header .edition in
     let n = d .header .gate-count in
     let a : s ≡ field (tag-of block) (body-of block (d .header)) ++ drop (d .gates-at) s = found-stands block s 0 bytes (d .header-read) in
-    let b : drop (d .gates-at) s ≡ flatMap gate-field (d .gates) ++ drop (d .wires-at) s = gates-again n s (d .gates-at) bytes (d .gates-read) in
-    let c : drop (d .wires-at) s ≡ flatMap wire-field (d .wires) = wires-again bytes (wires-found n s max-wires [] (d .wires-at) (d .wires-read)) in
+    let b : drop (d .gates-at) s ≡ flatMap (gate-field ed) (d .gates) ++ drop (d .wires-at) s = gates-again ed n s (d .gates-at) bytes (d .gates-read) in
+    let c : drop (d .wires-at) s ≡ flatMap (wire-field ed) (d .wires) = wires-again bytes (wires-found ed n s max-wires [] (d .wires-at) (d .wires-read)) in
     ap encode (d .all)
-    ∙ ap (λ (h : Header). field (tag-of block) (body-of block h) ++ flatMap gate-field (d .gates) ++ flatMap wire-field (d .wires)) (header-again s d)
-    ∙ sym (a ∙ ap (λ (l : List ℕ). field (tag-of block) (body-of block (d .header)) ++ l) (b ∙ ap (λ (l : List ℕ). flatMap gate-field (d .gates) ++ l) c))
+    ∙ ap (λ (h : Header). field (tag-of block) (body-of block h) ++ flatMap (gate-field ed) (d .gates) ++ flatMap (wire-field ed) (d .wires)) (header-again s d)
+    ∙ sym (a ∙ ap (λ (l : List ℕ). field (tag-of block) (body-of block (d .header)) ++ l) (b ∙ ap (λ (l : List ℕ). flatMap (gate-field ed) (d .gates) ++ l) c))
 
 -- The netlist of a file that is decoded is within the limits.
 pub decoded-is-limited : (s : List ℕ) {N : Netlist} {o : ℕ} → decode s ≡ found N o → Limited N
 decoded-is-limited s {N} {o} e =
     let d = decoded-is s e in
+    let ed = d .header .edition in
     let n = d .header .gate-count in
     let i = found-is block s 0 (d .header-read) in
     let h = faultless-from-0 block s 0 (i .no-fault) in
-    let g = gates-fit n s (d .gates-at) (d .gates-read) in
-    let w = wires-found n s max-wires [] (d .wires-at) (d .wires-read) in
+    let g = gates-fit ed n s (d .gates-at) (d .gates-read) in
+    let w = wires-found ed n s max-wires [] (d .wires-at) (d .wires-read) in
     let v = wires-fit w in
-    let l : length (d .gates) ≡ n = read-gates-length s n (d .gates-at) (d .gates-read) in
+    let l : length (d .gates) ≡ n = read-gates-length ed s n (d .gates-at) (d .gates-read) in
     subst Limited (sym (d .all))
     (record {
       header = subst (λ (x : Header). T (in-range block x)) (sym (header-again s d ∙ i .says-it)) (h .ranges);
       gates = g .ranges;
       steps = g .steps;
       drops = g .drops;
-      wires = subst (λ (m : ℕ). T (every (in-range (wire m [])) (d .wires))) (sym l) (v .ranges);
-      undelayed = v .undelayed;
+      wires = subst (λ (m : ℕ). T (every (in-range (wire ed m [])) (d .wires))) (sym l) (v .ranges);
+      delays = v .delays;
       no-wire-twice = v .unseen;
       wire-count = wires-count w;
     })

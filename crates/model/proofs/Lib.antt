@@ -21,3 +21,5 @@ pub mod Place
 pub mod Stored
 pub mod Limited
 pub mod Encoded
+pub mod Length
+pub mod Editions

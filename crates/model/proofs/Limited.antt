@@ -1,28 +1,25 @@
 -- The limits of a block that a file holds, as bounds on its numbers: for every gate, step and wire (document 01, "The block file"). The last theorem, `read-limits`, is what other crates cite for whatever `read-block` finds.
 -- Assumes nothing.
-use mathlib.Core.Path.{_≡_, refl, sym, subst}
+use mathlib.Core.Path.{_≡_, sym, subst}
 use mathlib.Core.Logic.{_≢_, ⊎-elim}
 use mathlib.Core.List.{List, [], _∷_}
 use mathlib.Core.Bool.{not, _&&_}
 use Prim.Native.Nat.{ℕ, zero, suc, _+_, _*_, _-_, _<_, _≤_}
 use native.Mathlib.Nat.{mul-le-mul-right, not-suc-le-zero, le-of-suc-le-suc}
 use native.Mathlib.Omega.{arith}
-use lib.Dec.{T, leb, ltb, eqb, leb→le, le→leb, ltb→lt, eqb→eq, eqb-refl, T-not}
+use lib.Dec.{T, leb, ltb, eqb, leb→le, ltb→lt, eqb-refl, T-not}
 use lib.ListN.{length, getD, length-map, List·getD-map}
 use Rattle.lists.proofs.Bool.{and-left, and-right, and-both, is-true}
 use Rattle.lists.proofs.Compare.{le-or-lt}
 use Rattle.model.proofs.Every.{every-at, every-anywhere, some-passes}
-use Rattle.model.proofs.Fault.{found-is, faultless-from-0}
-use Rattle.model.proofs.Bodies.{steps-said}
 use Rattle.model.proofs.File.{decoded-is-limited}
 use Rattle.model.proofs.Reading.{made-found}
-use Rattle.model.specs.Limits.{max-gates, max-wires, max-steps, max-probability, max-delay, max-width, max-drop, max-time, max-activity}
+use Rattle.model.specs.Limits.{max-edition, max-gates, max-wires, max-steps, max-probability, max-delay, max-wire-delay, max-width, max-drop, max-time, max-activity}
 use Rattle.model.specs.Activity.{activity}
 use Rattle.model.specs.Block.{Step, Gate, Wire, Block, gate-count}
 use Rattle.model.specs.Block as Block
 use Rattle.model.specs.Netlist.{DrawnGate, Netlist, gate-of, block-of}
-use Rattle.model.specs.Field.{body-at}
-use Rattle.model.specs.File.{gate, wire, block, every, in-range, drops-fall, step-in-range, falls, falls-below, fresh, some, same-ends, all-fresh, header-of, Header, Limited, found, says, read-field, decode, read-block}
+use Rattle.model.specs.File.{gate, wire, block, every, in-range, drops-fall, step-in-range, falls, falls-below, fresh, some, same-ends, all-fresh, header-of, Header, Limited, found, decode, read-block}
 
 -- ACTIVITY. The product of two numbers of sum 256 is at most 128 × 128: the one is as far below 128 as the other is above it.
 product-at-most : (p q : ℕ) → p ≤ 128 → p + q ≡ 256 → p * q ≤ 16384
@@ -92,8 +89,8 @@ pub record GateLimits (g : Gate) : Type 0 where
   pub step-limits : (j : ℕ) (d : Step) → j < length (g .steps) → StepLimits (getD (g .steps) j d)
   pub drops-fall : (j : ℕ) (d : Step) → suc j < length (g .steps) → getD (g .steps) (suc j) d .drop < getD (g .steps) j d .drop
 
-drawn-limits : (g : DrawnGate) → T (in-range gate g) → T (leb (length (g .steps)) max-steps) → T (drops-fall gate g) → GateLimits (gate-of g)
-drawn-limits g r c f =
+drawn-limits : (ed : ℕ) (g : DrawnGate) → T (in-range (gate ed) g) → T (leb (length (g .steps)) max-steps) → T (drops-fall (gate ed) g) → GateLimits (gate-of g)
+drawn-limits ed g r c f =
     let a = leb (g .delay) max-delay in
     let b = leb (g .probability) max-probability in
     let u : T (a && b) = and-left (a && b) (every step-in-range (g .steps)) r in
@@ -118,16 +115,16 @@ gate-limits : {N : Netlist} → Limited N → (g : ℕ) → GateLimits (Block.ga
 unfolding every falls
 gate-limits {N} l g =
     rw (gate-is N g)
-    (drawn-limits (getD (N .gates) g no-drawn) (every-anywhere (in-range gate) (N .gates) g no-drawn (l .gates) tt)
+    (drawn-limits (N .edition) (getD (N .gates) g no-drawn) (every-anywhere (in-range (gate (N .edition))) (N .gates) g no-drawn (l .gates) tt)
     (every-anywhere (λ (x : DrawnGate). leb (length (x .steps)) max-steps) (N .gates) g no-drawn (l .steps) tt)
-    (every-anywhere (drops-fall gate) (N .gates) g no-drawn (l .drops) tt))
+    (every-anywhere (drops-fall (gate (N .edition))) (N .gates) g no-drawn (l .drops) tt))
 
 -- WIRES
 pub record WireLimits (n : ℕ) (w : Wire) : Type 0 where
   pub source-below : w .source < n
   pub target-below : w .target < n
   pub apart : w .source ≢ w .target
-  pub undelayed : w .delay ≡ 0
+  pub delay-most : w .delay ≤ max-wire-delay
 
 eqb-of : (a b : ℕ) → a ≡ b → T (eqb a b)
 eqb-of a b e = subst (λ (k : ℕ). T (eqb a k)) e (eqb-refl a)
@@ -160,13 +157,19 @@ none-twice seen (w ∷ ws) i zero d t h l s = not-suc-le-zero h
 none-twice seen (w ∷ ws) zero (suc j) d t h l s = unseen-at (w ∷ seen) ws 0 j d (and-right (fresh seen w) (all-fresh (w ∷ seen) ws) t) (omega arith) (le-of-suc-le-suc l) s
 none-twice seen (w ∷ ws) (suc i) (suc j) d t h l s = none-twice (w ∷ seen) ws i j d (and-right (fresh seen w) (all-fresh (w ∷ seen) ws) t) (le-of-suc-le-suc h) (le-of-suc-le-suc l) s
 
-wire-limits : (n : ℕ) (w : Wire) → T (in-range (wire n []) w) → w .source ≢ w .target → w .delay ≡ 0 → WireLimits n w
-wire-limits n w r apart e = record {
-  source-below = ltb→lt (w .source) n (and-left (ltb (w .source) n) (ltb (w .target) n) r);
-  target-below = ltb→lt (w .target) n (and-right (ltb (w .source) n) (ltb (w .target) n) r);
-  apart = apart;
-  undelayed = e;
-}
+-- the numbers of a wire field
+pub wire-ranges : (ed n : ℕ) (seen : List Wire) (w : Wire) → T (in-range (wire ed n seen) w) → (w .source < n) × (w .target < n) × (w .delay ≤ max-wire-delay)
+wire-ranges ed n seen w r =
+    let a = ltb (w .source) n in
+    let b = ltb (w .target) n in
+    let c = leb (w .delay) max-wire-delay in
+    let u : T (a && b) = and-left (a && b) c r in
+    (ltb→lt (w .source) n (and-left a b u), ltb→lt (w .target) n (and-right a b u), leb→le (w .delay) max-wire-delay (and-right (a && b) c r))
+
+wire-limits : (ed n : ℕ) (seen : List Wire) (w : Wire) → T (in-range (wire ed n seen) w) → w .source ≢ w .target → WireLimits n w
+wire-limits ed n seen w r apart =
+    let l = wire-ranges ed n seen w r in
+    record { source-below = l .0; target-below = l .1; apart = apart; delay-most = l .2 }
 
 -- THE BLOCK
 pub record BlockLimits (B : Block) : Type 0 where
@@ -184,12 +187,12 @@ wire-limits-at : {N : Netlist} → Limited N → (i : ℕ) (d : Wire) → i < le
 wire-limits-at {N} l i d h =
     let w = getD (N .wires) i d in
     let n = length (N .gates) in
-    wire-limits n w (every-at (in-range (wire n [])) (N .wires) i d (l .wires) h) (all-apart [] (N .wires) i d (l .no-wire-twice) h)
-    (eqb→eq (w .delay) 0 (every-at (λ (x : Wire). eqb (x .delay) 0) (N .wires) i d (l .undelayed) h))
+    wire-limits (N .edition) n [] w (every-at (in-range (wire (N .edition) n [])) (N .wires) i d (l .wires) h) (all-apart [] (N .wires) i d (l .no-wire-twice) h)
 
 -- the numbers of a block field
 pub record HeaderLimits (h : Header) : Type 0 where
-  pub edition-is : h .edition ≡ 1
+  pub edition-least : 1 ≤ h .edition
+  pub edition-most : h .edition ≤ max-edition
   pub some-gate : 1 ≤ h .gate-count
   pub gates-most : h .gate-count ≤ max-gates
   pub arrival-most : h .arrival ≤ max-time
@@ -199,7 +202,9 @@ pub record HeaderLimits (h : Header) : Type 0 where
 pub header-limits : (h : Header) → T (in-range block h) → HeaderLimits h
 header-limits h t =
     let n = h .gate-count in
-    let a = eqb (h .edition) 1 in
+    let y = leb 1 (h .edition) in
+    let z = leb (h .edition) max-edition in
+    let a = y && z in
     let b = leb 1 n in
     let c = leb n max-gates in
     let d = leb (h .arrival) max-time in
@@ -210,7 +215,8 @@ header-limits h t =
     let w : T (a && b && c) = and-left (a && b && c) d v in
     let x : T (a && b) = and-left (a && b) c w in
     record {
-      edition-is = eqb→eq (h .edition) 1 (and-left a b x);
+      edition-least = leb→le 1 (h .edition) (and-left y z (and-left a b x));
+      edition-most = leb→le (h .edition) max-edition (and-right y z (and-left a b x));
       some-gate = leb→le 1 n (and-right a b x);
       gates-most = leb→le n max-gates (and-right (a && b) c w);
       arrival-most = leb→le (h .arrival) max-time (and-right (a && b && c) d v);
@@ -239,28 +245,6 @@ limited-block {N} l =
           (eqb-of (getD (N .wires) j y .source) (getD (N .wires) i y .source) p)
           (eqb-of (getD (N .wires) j y .target) (getD (N .wires) i y .target) q));
     }
-
--- ONE FIELD: what is found is within the limits.
-module _ (s : List ℕ) (o : ℕ) {p : ℕ} where
-  pub found-header-limits : {h : Header} → read-field block s o ≡ found h p → HeaderLimits h
-  found-header-limits e =
-      let i = found-is block s o e in
-      subst HeaderLimits (sym (i .says-it)) (header-limits (says block (body-at s o)) (faultless-from-0 block s o (i .no-fault) .ranges))
-
-  pub found-gate-limits : (g : DrawnGate) → read-field gate s o ≡ found g p → GateLimits (gate-of g)
-  found-gate-limits g e =
-      let i = found-is gate s o e in
-      let f = faultless-from-0 gate s o (i .no-fault) in
-      let b = body-at s o in
-      subst (λ (x : DrawnGate). GateLimits (gate-of x)) (sym (i .says-it))
-      (drawn-limits (says gate b) (f .ranges) (le→leb (length (says gate b .steps)) max-steps (steps-said b (f .length-due))) (f .drops))
-
-  pub found-wire-limits : (n : ℕ) (seen : List Wire) {w : Wire} → read-field (wire n seen) s o ≡ found w p → WireLimits n w
-  found-wire-limits n seen e =
-      let i = found-is (wire n seen) s o e in
-      let f = faultless-from-0 (wire n seen) s o (i .no-fault) in
-      let w = says (wire n seen) (body-at s o) in
-      subst (WireLimits n) (sym (i .says-it)) (wire-limits n w (f .ranges) (fresh-apart seen w (f .unseen)) refl)
 
 -- Whatever block a file holds is within the limits.
 pub read-limits : (s : List ℕ) {B : Block} {o : ℕ} → read-block s ≡ found B o → BlockLimits B

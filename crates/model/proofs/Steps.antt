@@ -9,14 +9,14 @@ use native.Mathlib.Nat.{not-suc-le-zero, le-of-suc-le-suc, eq-or-lt-of-le}
 use borrow.Author.Tests.{lt-ltb, le-ltb}
 use native.Mathlib.Omega.{arith}
 use lib.Dec.{ltb}
-use lib.ListN.{length, drop, length-drop}
-use lib.Seq.{append-snoc, getD-drop}
+use lib.ListN.{length, drop}
+use lib.Seq.{append-snoc}
 use Rattle.lists.specs.Over.{build}
 use Rattle.lists.proofs.Over.{build-same}
 use Rattle.model.proofs.Every.{and-true, and-assoc, and-false}
 use Rattle.model.specs.Block.{Step}
 use Rattle.model.specs.Field.{number}
-use Rattle.model.specs.File.{gate, says, steps-in, falls, falls-below}
+use Rattle.model.specs.File.{steps-in, falls, falls-below}
 
 -- a `build` from its front
 build-front : {A : Type 0} (n : ℕ) (f : ℕ → A) → build (suc n) f ≡ f 0 ∷ build n (λ (i : ℕ). f (suc i))
@@ -50,21 +50,6 @@ steps-by-index (a ∷ b ∷ c ∷ d ∷ rest) (suc k) e =
     (steps-by-index rest k (omega arith)
     ∙ build-same k (step-at rest) (λ (i : ℕ). step-at (a ∷ b ∷ c ∷ d ∷ rest) (suc i)) (λ (i : ℕ) (h : i < k). sym (step-at-next a b c d rest i)))
     ∙ sym (build-front k (step-at (a ∷ b ∷ c ∷ d ∷ rest)))
-
--- the same of the body of a gate field, whose steps stand behind its first four bytes
-gate-step-at : (b : List ℕ) (i : ℕ) → step-at (drop 4 b) i ≡ record { width = number b (4 + 4 * i); drop = number b (4 + 4 * i + 2) }
-gate-step-at b i =
-    let p : 4 + (4 * i + 1) ≡ 4 + 4 * i + 1 = omega arith in
-    let q : 4 + (4 * i + 2) ≡ 4 + 4 * i + 2 = omega arith in
-    let r : 4 + (4 * i + 2 + 1) ≡ 4 + 4 * i + 2 + 1 = omega arith in
-    rw (getD-drop 4 b (4 * i) 0, getD-drop 4 b (4 * i + 1) 0, getD-drop 4 b (4 * i + 2) 0, getD-drop 4 b (4 * i + 2 + 1) 0, p, q, r)
-
-pub gate-steps-by-index : (b : List ℕ) (k : ℕ) → length b ≡ 4 + 4 * k → says gate b .steps
-    ≡ build k (λ (i : ℕ). record { width = number b (4 + 4 * i); drop = number b (4 + 4 * i + 2) })
-gate-steps-by-index b k e =
-    steps-by-index (drop 4 b) k (omega (arith, length-drop 4 b))
-    ∙ build-same k (step-at (drop 4 b)) (λ (i : ℕ). record { width = number b (4 + 4 * i); drop = number b (4 + 4 * i + 2) })
-    (λ (i : ℕ) (h : i < k). gate-step-at b i)
 
 and-regroup : (a b : Bool) → a && (b && true) ≡ (a && true) && b
 and-regroup true true = refl

@@ -1,5 +1,5 @@
--- The block file (document 01, "The block file", "Refusals and their places"): `decode` from bytes to a netlist or a refusal with its place, and `encode`.
--- Lengths and ranges of each tag stand here and nowhere else.
+-- The block file (document 01, "The block file", "Refusals and their places"; document 02, K2: edition 2): `decode` from bytes to a netlist or a refusal with its place, and `encode`.
+-- Lengths and ranges of each tag stand here and nowhere else, and so does what differs by edition.
 use mathlib.Core.List.{List, [], _∷_, _++_, flatMap}
 use mathlib.Core.Bool.{Bool, true, false, cond, not, _&&_, _||_}
 use Prim.Native.Nat.{ℕ, zero, suc, _+_, _*_, _%_, _≤_}
@@ -7,7 +7,7 @@ use lib.Dec.{T, leb, ltb, eqb}
 use lib.ListN.{length, getD, drop}
 use Rattle.model.specs.declared.Field.{Field}
 use Rattle.model.specs.declared.Field.the-variants.{NoHeader, NoBody, Whole}
-use Rattle.model.specs.Limits.{max-gates, max-wires, max-steps, max-probability, max-delay, max-width, max-drop, max-time}
+use Rattle.model.specs.Limits.{max-edition, max-gates, max-wires, max-steps, max-probability, max-delay, max-wire-delay, max-width, max-drop, max-time}
 use Rattle.model.specs.Block.{Step, Wire, Block}
 use Rattle.model.specs.Netlist.{DrawnGate, Netlist, block-of}
 use Rattle.model.specs.Field.{byte-values, number, two-bytes, field, field-at, body-at, body-to}
@@ -20,28 +20,48 @@ pub record Header : Type 0 where
   pub deadline : ℕ
   pub probability : ℕ
 
--- What is due at a place of the file: the block field, a gate field, or a wire field of a block of so many gates after the wires that stood before.
+-- WHAT DIFFERS BY EDITION. "Edition 2 of the block file gives each wire a third number, its delay, two bytes"; "edition 1 wires have delay 0" (document 02, K2).
+abbrev pub has-wire-delays : ℕ → Bool
+has-wire-delays edition = leb 2 edition
+
+-- bytes of a wire's body: its two gates and, where it has one, its delay
+abbrev pub wire-bytes : ℕ → ℕ
+wire-bytes edition = cond (has-wire-delays edition) 4 2
+
+-- the delay of a wire by its body
+abbrev pub delay-in : ℕ → List ℕ → ℕ
+delay-in edition b = cond (has-wire-delays edition) (number b 2) 0
+
+-- the bytes that a wire's delay takes in its body
+abbrev pub delay-bytes : ℕ → ℕ → List ℕ
+delay-bytes edition d = cond (has-wire-delays edition) (two-bytes d) []
+
+-- a file of the edition can give the wire its delay
+abbrev pub delay-fits : ℕ → Wire → Bool
+delay-fits edition w = has-wire-delays edition || eqb (w .delay) 0
+
+-- What is due at a place of the file: the block field; in a file of this edition a gate field; or there, in a block of so many gates, a wire field after the wires that stood before.
 pub data Due : Type 0 where
   block : Due
-  gate : Due
-  wire : ℕ → List Wire → Due
+  gate : ℕ → Due
+  wire : ℕ → ℕ → List Wire → Due
 
 -- what a field says
 abbrev pub Value : Due → Type 0
 Value block = Header
-Value gate = DrawnGate
-Value (wire n seen) = Wire
+Value (gate edition) = DrawnGate
+Value (wire edition n seen) = Wire
 
 abbrev pub tag-of : Due → ℕ
 tag-of block = 1
-tag-of gate = 2
-tag-of (wire n seen) = 3
+tag-of (gate edition) = 2
+tag-of (wire edition n seen) = 3
 
--- the lengths of each tag: 8; 4 + 4k for k from 0 to 8; 2
+-- the lengths of each tag: 8; 4 + 4k for k from 0 to 8; 2, from edition 2 on 4
 abbrev pub length-fits : Due → ℕ → Bool
 length-fits block l = eqb l 8
-length-fits gate l = leb 4 l && leb l (4 + 4 * max-steps) && eqb (l % 4) 0
-length-fits (wire n seen) l = eqb l 2
+length-fits (gate edition) l = leb 4 l && leb l (4 + 4 * max-steps) && eqb (l % 4) 0
+length-fits (wire edition n seen) l = eqb l (wire-bytes edition)
 
 -- steps of width and drop, two bytes each, one after another
 unfoldable pub steps-in : List ℕ → List Step
@@ -61,8 +81,8 @@ says block b =
       deadline = number b 4;
       probability = number b 6;
     }
-says gate b = record { delay = number b 0; probability = number b 2; steps = steps-in (drop 4 b) }
-says (wire n seen) b = record { source = getD b 0 0; target = getD b 1 0; delay = 0 }
+says (gate edition) b = record { delay = number b 0; probability = number b 2; steps = steps-in (drop 4 b) }
+says (wire edition n seen) b = record { source = getD b 0 0; target = getD b 1 0; delay = delay-in edition b }
 
 -- the test passes at every element
 unfoldable pub every : {A : Type 0} → (A → Bool) → List A → Bool
@@ -81,14 +101,15 @@ step-in-range s = leb 1 (s .width) && leb (s .width) max-width && leb 1 (s .drop
 -- every number of a field is in its range
 abbrev pub in-range : (k : Due) → Value k → Bool
 in-range block h =
-    eqb (h .edition) 1
+    leb 1 (h .edition)
+    && leb (h .edition) max-edition
     && leb 1 (h .gate-count)
     && leb (h .gate-count) max-gates
     && leb (h .arrival) max-time
     && leb (h .deadline) max-time
     && leb (h .probability) max-probability
-in-range gate g = leb (g .delay) max-delay && leb (g .probability) max-probability && every step-in-range (g .steps)
-in-range (wire n seen) w = ltb (w .source) n && ltb (w .target) n
+in-range (gate edition) g = leb (g .delay) max-delay && leb (g .probability) max-probability && every step-in-range (g .steps)
+in-range (wire edition n seen) w = ltb (w .source) n && ltb (w .target) n && leb (w .delay) max-wire-delay
 
 -- "Drops fall strictly": the first is below the bound, each other below the one before
 unfoldable pub falls-below : ℕ → List Step → Bool
@@ -101,10 +122,10 @@ falls (s ∷ ss) = falls-below (s .drop) ss
 
 abbrev pub drops-fall : (k : Due) → Value k → Bool
 drops-fall block h = true
-drops-fall gate g = falls (g .steps)
-drops-fall (wire n seen) w = true
+drops-fall (gate edition) g = falls (g .steps)
+drops-fall (wire edition n seen) w = true
 
--- two wires lead from the same gate to the same gate
+-- two wires lead from the same gate to the same gate, whatever their delays
 abbrev pub same-ends : Wire → Wire → Bool
 same-ends v w = eqb (v .source) (w .source) && eqb (v .target) (w .target)
 
@@ -114,8 +135,8 @@ fresh seen w = not (eqb (w .source) (w .target)) && not (some (same-ends w) seen
 
 abbrev pub is-fresh : (k : Due) → Value k → Bool
 is-fresh block h = true
-is-fresh gate g = true
-is-fresh (wire n seen) w = fresh seen w
+is-fresh (gate edition) g = true
+is-fresh (wire edition n seen) w = fresh seen w
 
 -- the refusal's number where the test fails, else what the further tests say
 abbrev pub unless : Bool → ℕ → ℕ → ℕ
@@ -152,22 +173,22 @@ unless-fault (suc k) o value next = refused (suc k) o
 unfoldable pub read-field : (k : Due) → List ℕ → ℕ → Reading (Value k)
 read-field k s o = unless-fault (fault k s o) o (says k (body-at s o)) (body-to s o)
 
--- so many gate fields from offset o on
-unfoldable pub read-gates : ℕ → List ℕ → ℕ → Reading (List DrawnGate)
-read-gates zero s o = found [] o
-read-gates (suc n) s o =
-    and-then (read-field gate s o)
-    (λ (g : DrawnGate) (p : ℕ). and-then (read-gates n s p) (λ (gs : List DrawnGate) (q : ℕ). found (g ∷ gs) q))
+-- so many gate fields of an edition from offset o on
+unfoldable pub read-gates : ℕ → ℕ → List ℕ → ℕ → Reading (List DrawnGate)
+read-gates edition zero s o = found [] o
+read-gates edition (suc n) s o =
+    and-then (read-field (gate edition) s o)
+    (λ (g : DrawnGate) (p : ℕ). and-then (read-gates edition n s p) (λ (gs : List DrawnGate) (q : ℕ). found (g ∷ gs) q))
 
 -- "Wire fields follow until the bytes end": from offset o on, with room for so many; a byte beyond them is refusal 7
-unfoldable pub read-wires : ℕ → ℕ → List Wire → List ℕ → ℕ → Reading (List Wire)
-read-wires zero n seen s o = cond (leb (length s) o) (found [] o) (refused 7 o)
-read-wires (suc room) n seen s o =
+unfoldable pub read-wires : ℕ → ℕ → ℕ → List Wire → List ℕ → ℕ → Reading (List Wire)
+read-wires zero edition n seen s o = cond (leb (length s) o) (found [] o) (refused 7 o)
+read-wires (suc room) edition n seen s o =
     elim (leb (length s) o) [
       | true ↦ found [] o
       | false ↦
-          and-then (read-field (wire n seen) s o)
-          (λ (w : Wire) (p : ℕ). and-then (read-wires room n (w ∷ seen) s p) (λ (ws : List Wire) (q : ℕ). found (w ∷ ws) q))
+          and-then (read-field (wire edition n seen) s o)
+          (λ (w : Wire) (p : ℕ). and-then (read-wires room edition n (w ∷ seen) s p) (λ (ws : List Wire) (q : ℕ). found (w ∷ ws) q))
     ]
 
 abbrev pub netlist : Header → List DrawnGate → List Wire → Netlist
@@ -186,9 +207,9 @@ unfoldable pub decode : List ℕ → Reading Netlist
 decode s =
     and-then (read-field block s 0)
     (λ (h : Header) (o : ℕ).
-    and-then (read-gates (h .gate-count) s o)
+    and-then (read-gates (h .edition) (h .gate-count) s o)
     (λ (gs : List DrawnGate) (p : ℕ).
-    and-then (read-wires max-wires (h .gate-count) [] s p) (λ (ws : List Wire) (q : ℕ). found (netlist h gs ws) q)))
+    and-then (read-wires max-wires (h .edition) (h .gate-count) [] s p) (λ (ws : List Wire) (q : ℕ). found (netlist h gs ws) q)))
 
 -- the block that the bytes hold, or the first refusal of 1 to 7
 unfoldable pub read-block : List ℕ → Reading Block
@@ -204,7 +225,7 @@ header-of N =
       probability = N .probability;
     }
 
--- the body of a block field, a gate field and a wire field
+-- the body of a block field, of a gate field, and of a wire field in an edition
 abbrev pub header-body : Header → List ℕ
 header-body h =
     h .edition ∷ h .gate-count ∷ two-bytes (h .arrival) ++ two-bytes (h .deadline) ++ two-bytes (h .probability)
@@ -215,28 +236,28 @@ step-bytes s = two-bytes (s .width) ++ two-bytes (s .drop)
 abbrev pub gate-body : DrawnGate → List ℕ
 gate-body g = two-bytes (g .delay) ++ two-bytes (g .probability) ++ flatMap step-bytes (g .steps)
 
-abbrev pub wire-body : Wire → List ℕ
-wire-body w = w .source ∷ w .target ∷ []
+abbrev pub wire-body : ℕ → Wire → List ℕ
+wire-body edition w = w .source ∷ w .target ∷ delay-bytes edition (w .delay)
 
 -- the file that says a netlist
 unfoldable pub encode : Netlist → List ℕ
 encode N =
     field (tag-of block) (header-body (header-of N))
-    ++ flatMap (λ (g : DrawnGate). field (tag-of gate) (gate-body g)) (N .gates)
-    ++ flatMap (λ (w : Wire). field (tag-of (wire 0 [])) (wire-body w)) (N .wires)
+    ++ flatMap (λ (g : DrawnGate). field (tag-of (gate (N .edition))) (gate-body g)) (N .gates)
+    ++ flatMap (λ (w : Wire). field (tag-of (wire (N .edition) 0 [])) (wire-body (N .edition) w)) (N .wires)
 
 -- no wire joins a gate to itself, stands twice or stands among those seen
 unfoldable pub all-fresh : List Wire → List Wire → Bool
 all-fresh seen [] = true
 all-fresh seen (w ∷ ws) = fresh seen w && all-fresh (w ∷ seen) ws
 
--- The netlist is within the limits: it can stand in a file of edition 1.
+-- The netlist is within the limits: it can stand in a file of its edition.
 pub record Limited (N : Netlist) : Type 0 where
   pub header : T (in-range block (header-of N))
-  pub gates : T (every (in-range gate) (N .gates))
+  pub gates : T (every (in-range (gate (N .edition))) (N .gates))
   pub steps : T (every (λ (g : DrawnGate). leb (length (g .steps)) max-steps) (N .gates))
-  pub drops : T (every (drops-fall gate) (N .gates))
-  pub wires : T (every (in-range (wire (length (N .gates)) [])) (N .wires))
-  pub undelayed : T (every (λ (w : Wire). eqb (w .delay) 0) (N .wires))
+  pub drops : T (every (drops-fall (gate (N .edition))) (N .gates))
+  pub wires : T (every (in-range (wire (N .edition) (length (N .gates)) [])) (N .wires))
+  pub delays : T (every (delay-fits (N .edition)) (N .wires))
   pub no-wire-twice : T (all-fresh [] (N .wires))
   pub wire-count : length (N .wires) ≤ max-wires

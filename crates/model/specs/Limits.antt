@@ -1,5 +1,9 @@
--- The limits of a block file (document 01, "The block file"), each by its name. A file is held to them by `decode` and `Limited` (File) alone; elsewhere they say how much room an array has and how large a number can be.
+-- The limits of a block file (document 01, "The block file"; document 02, K2), each by its name. A file is held to them by `decode` and `Limited` (File) alone; elsewhere they say how much room an array has and how large a number can be.
 use Prim.Native.Nat.{ℕ, _*_, _-_}
+
+-- editions of the block file are numbered from 1 to this
+abbrev pub max-edition : ℕ
+max-edition = 2
 
 -- gates of a block, at most
 abbrev pub max-gates : ℕ
@@ -21,6 +25,10 @@ max-probability = 256
 abbrev pub max-delay : ℕ
 max-delay = 4095
 
+-- delay of a wire, in ticks, at most
+abbrev pub max-wire-delay : ℕ
+max-wire-delay = 4095
+
 -- width of a step, in ticks, at most
 abbrev pub max-width : ℕ
 max-width = 4095
@@ -35,7 +43,7 @@ max-time = 65535
 
 -- bytes of an input that the printing program reads
 abbrev pub max-bytes : ℕ
-max-bytes = 4096
+max-bytes = 8192
 
 -- pairs of a curve, at most: each pair ends some gate's step
 abbrev pub max-pairs : ℕ

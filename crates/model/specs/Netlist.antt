@@ -10,7 +10,7 @@ pub record DrawnGate : Type 0 where
   pub probability : ℕ
   pub steps : List Step
 
--- A block file: the numbers of its block field but the gate count, its gates and its wires in file order. In edition 1 a wire's delay is 0.
+-- A block file: the numbers of its block field but the gate count, its gates and its wires in file order. In edition 1 every wire's delay is 0.
 pub record Netlist : Type 0 where
   pub edition : ℕ
   pub arrival : ℕ

@@ -16,7 +16,7 @@ pub const MAX_PAIRS: usize = MAX_GATES * MAX_STEPS;
 pub const GATES_SQUARED: usize = MAX_GATES * MAX_GATES;
 
 // Bytes of its input that the printing program reads.
-pub const MAX_BYTES: usize = 4096;
+pub const MAX_BYTES: usize = 8192;
 
 // A number for each gate.
 pub type GateNumbers = [u32; MAX_GATES];

@@ -63,9 +63,9 @@ pub record GateLength (l : ℕ) : Type 0 where
   pub most : l ≤ 36
   pub whole-steps : l % 4 ≡ 0
 
-pub gate-length : (l : ℕ) → length-fits gate l ≡ true → GateLength l
-gate-length l e =
-    let t : T (length-fits gate l) = subst T (sym e) tt in
+pub gate-length : (ed l : ℕ) → length-fits (gate ed) l ≡ true → GateLength l
+gate-length ed l e =
+    let t : T (length-fits (gate ed) l) = subst T (sym e) tt in
     let r : T (leb 4 l && leb l 36) = and-left (leb 4 l && leb l 36) (eqb (l % 4) 0) t in
     record {
       least = leb→le 4 l (and-left (leb 4 l) (leb l 36) r);

@@ -10,8 +10,8 @@ use Rattle.ranges.specs.declared.limits.Due.the-variants.{Block, Gate, W
 -- The due field as the definitions have it. Tag and length of a wire do not depend on the gate count and the wires before.
 abbrev pub kind : Due → File.Due
 kind Block = File.block
-kind Gate = File.gate
-kind Wire = File.wire 0 []
+kind (Gate edition) = File.gate edition
+kind (Wire edition) = File.wire edition 0 []
 
 -- step j of the steps written from the front of b on
 abbrev pub step-of : List ℕ → ℕ → Step

@@ -17,10 +17,10 @@ pairs = max-gates * max-gates
 abbrev pub pair-place : ℕ → ℕ → ℕ
 pair-place a b = max-gates * a + b
 
--- the wire of edition 1 from a to b
-abbrev pub between : ℕ → ℕ → Wire
-between a b = record { source = a; target = b; delay = 0 }
+-- the wire from a to b with a delay
+abbrev pub between : ℕ → ℕ → ℕ → Wire
+between a b delay = record { source = a; target = b; delay = delay }
 
 -- The table is 0 at exactly those pairs that no wire of the list joins. Which other number stands at the rest, and what stands beyond the pairs, is free.
 pub record Marks (table : List ℕ) (ws : List Wire) : Type 0 where
-  pub at-pair : (a b : ℕ) → a < max-gates → b < max-gates → eqb (getD table (pair-place a b) 0) 0 ≡ not (some (same-ends (between a b)) ws)
+  pub at-pair : (a b delay : ℕ) → a < max-gates → b < max-gates → eqb (getD table (pair-place a b) 0) 0 ≡ not (some (same-ends (between a b delay)) ws)

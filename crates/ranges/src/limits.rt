@@ -1,19 +1,20 @@
-// Tags, lengths and ranges of the fields of edition 1. They stand here and nowhere else in the code, but for the numbers of gates, steps and wires (`model::limits`).
+// Tags, lengths and ranges of the fields. They stand here and nowhere else in the code, but for what differs by edition (`edition`) and the numbers of gates, steps and wires (`model::limits`).
 // Public for `faults` and `blockfile` alone.
 ghost use mathlib.Core.Path.{_≡_};
 ghost use mathlib.Core.Bool.{true};
 ghost use mathlib.Core.List.{[]};
-ghost use Prim.Native.Nat.{_+_, _*_, _≤_, _%_};
+ghost use Prim.Native.Nat.{ℕ, _+_, _*_, _≤_, _%_};
 ghost use lib.ListN.{length};
-ghost use Rattle.model.specs.File.{block, gate, wire, tag-of, length-fits, says, in-range, step-in-range, every, steps-in, falls};
+ghost use Rattle.model.specs.File.{block, gate, wire, tag-of, wire-bytes, length-fits, says, in-range, step-in-range, every, steps-in, falls};
 ghost use Rattle.ranges.specs.Kinds.{kind, step-of};
+use crate::edition::MAX_EDITION;
+use crate::edition::wire_bytes;
+use crate::edition::wire_delay;
 use fields::field::number_at;
 use model::limits::MAX_GATES;
 use model::limits::MAX_STEPS;
 
-// The block: edition, gates and bytes.
-const EDITION: u8 = 1;
-
+// The block: gates and bytes.
 const GATES: u8 = MAX_GATES as u8;
 
 const BLOCK_BYTES: usize = 8;
@@ -29,14 +30,14 @@ const MAX_DROP: u32 = 1000;
 pub const GATE_BYTES: usize = 4;
 
 pub const STEP_BYTES: usize = 4;
-// The bytes of a wire.
-const WIRE_BYTES: usize = 2;
+// A wire: delay.
+const MAX_WIRE_DELAY: u32 = 4095;
 
-// What is due at a place of the file.
+// What is due at a place of the file, of an edition where it is known.
 pub enum Due {
     Block,
-    Gate,
-    Wire,
+    Gate { edition: u8 },
+    Wire { edition: u8 },
 }
 
 // The tag of what is due.
@@ -45,14 +46,14 @@ pub fn tag_of(due: Due) -> u8
 {
     match due {
         Due::Block => 1,
-        Due::Gate => 2,
-        Due::Wire => 3,
+        Due::Gate { edition: _ } => 2,
+        Due::Wire { edition: _ } => 3,
     }
 }
 
-// Whether a gate's body can have this length.
+// Whether a gate's body can have this length, in any edition.
 pub fn gate_length_fits(length: usize) -> bool
-    ensures { λ r. ⌜ r ≡ length-fits gate length ⌝ }
+    ensures { λ r. ⌜ ((edition : ℕ) → r ≡ length-fits (gate edition) length) ⌝ }
 {
     if length < GATE_BYTES {
         return false;
@@ -69,8 +70,8 @@ pub fn length_fits(due: Due, length: usize) -> bool
 {
     match due {
         Due::Block => length == BLOCK_BYTES,
-        Due::Gate => gate_length_fits(length),
-        Due::Wire => length == WIRE_BYTES,
+        Due::Gate { edition: _ } => gate_length_fits(length),
+        Due::Wire { edition } => length == wire_bytes(edition),
     }
 }
 
@@ -79,7 +80,10 @@ pub fn block_in_range(body: &[u8]) -> bool
     requires { ⌜ length (now body) ≡ 8 ⌝ }
     ensures { λ r. ⌜ r ≡ in-range block (says block (now (body .entry))) ⌝ }
 {
-    if body[0] != EDITION {
+    if body[0] < 1 {
+        return false;
+    }
+    if MAX_EDITION < body[0] {
         return false;
     }
     if body[1] < 1 {
@@ -126,10 +130,10 @@ pub fn steps_in_range(steps: &[u8]) -> bool
     true
 }
 
-// Whether every number of a gate's body is in its range.
+// Whether every number of a gate's body is in its range, in any edition.
 pub fn gate_in_range(body: &[u8]) -> bool
-    requires { ⌜ length-fits gate (length (now body)) ≡ true ⌝ }
-    ensures { λ r. ⌜ r ≡ in-range gate (says gate (now (body .entry))) ⌝ }
+    requires { ⌜ ((edition : ℕ) × (length-fits (gate edition) (length (now body)) ≡ true)) ⌝ }
+    ensures { λ r. ⌜ ((edition : ℕ) → r ≡ in-range (gate edition) (says (gate edition) (now (body .entry)))) ⌝ }
 {
     if MAX_DELAY < number_at(body, 0) {
         return false;
@@ -156,13 +160,16 @@ pub fn drops_fall(steps: &[u8]) -> bool
     true
 }
 
-// Whether a wire's body names two gates below the gate count.
-pub fn wire_in_range(body: &[u8], gates: u8) -> bool
-    requires { ⌜ length (now body) ≡ 2 ⌝ }
-    ensures { λ r. ⌜ r ≡ in-range (wire gates []) (says (wire gates []) (now (body .entry))) ⌝ }
+// Whether a wire's body names two gates below the gate count, and a delay in its range.
+pub fn wire_in_range(body: &[u8], edition: u8, gates: u8) -> bool
+    requires { ⌜ length (now body) ≡ wire-bytes edition ⌝ }
+    ensures { λ r. ⌜ r ≡ in-range (wire edition gates []) (says (wire edition gates []) (now (body .entry))) ⌝ }
 {
     if gates <= body[0] {
         return false;
     }
-    body[1] < gates
+    if gates <= body[1] {
+        return false;
+    }
+    wire_delay(edition, body) <= MAX_WIRE_DELAY
 }

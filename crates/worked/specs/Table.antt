@@ -1,4 +1,4 @@
--- The cases of document 01, "Blocks tried by hand", that are marked P, as rows of one table in the document's order.
+-- The cases of document 01, "Blocks tried by hand", that are marked P, as rows of one table in the document's order; behind them D with wires that take time (document 02, K2), worked out by hand.
 -- Every p is 128, arrival is 0. Where the document leaves them free, chosen here: delay 1 for the gates of the bridge, the triangle and 001's chain, no steps for those of the bridge and the triangle; deadline 9 for these and for 001's parallel gates (in a curve it plays no part).
 -- Lent slices are filled with 9 and, but for the empty file, one element longer than needed: a row shows that what lies beyond is unchanged.
 use mathlib.Core.List.{List, [], _∷_, _++_}
@@ -25,19 +25,32 @@ gate d ss = record { delay = d; probability = 128; steps = ss }
 abbrev to : ℕ → ℕ → Wire
 to a b = record { source = a; target = b; delay = 0 }
 
--- the file of a block with these gates and wires
+-- the same wire with a delay
+abbrev to-in : ℕ → ℕ → ℕ → Wire
+to-in a b ticks = record { source = a; target = b; delay = ticks }
+
+-- the file of a block with these gates and wires, in an edition and in edition 1
+abbrev file-in : ℕ → ℕ → List DrawnGate → List Wire → List ℕ
+file-in edition deadline gs ws =
+    encode (record { edition = edition; arrival = 0; deadline = deadline; probability = 128; gates = gs; wires = ws })
+
 abbrev file : ℕ → List DrawnGate → List Wire → List ℕ
-file deadline gs ws =
-    encode (record { edition = 1; arrival = 0; deadline = deadline; probability = 128; gates = gs; wires = ws })
+file = file-in 1
 
 -- the four wires of a diamond
 abbrev diamond-wires : List Wire
 diamond-wires = to 0 1 ∷ to 0 2 ∷ to 1 3 ∷ to 2 3 ∷ []
 
 -- "D: delays 2, 3, 1, 2; steps none; (2,5),(3,2); (4,4); (5,6); wires 0-1, 0-2, 1-3, 2-3"
+abbrev diamond-gates : List DrawnGate
+diamond-gates = gate 2 [] ∷ gate 3 (step 2 5 ∷ step 3 2 ∷ []) ∷ gate 1 (step 4 4 ∷ []) ∷ gate 2 (step 5 6 ∷ []) ∷ []
+
 abbrev diamond : ℕ → List ℕ
-diamond deadline =
-    file deadline (gate 2 [] ∷ gate 3 (step 2 5 ∷ step 3 2 ∷ []) ∷ gate 1 (step 4 4 ∷ []) ∷ gate 2 (step 5 6 ∷ []) ∷ []) diamond-wires
+diamond deadline = file deadline diamond-gates diamond-wires
+
+-- D in edition 2 with deadline 12, its wires in the same order with these delays
+abbrev delayed-diamond : ℕ → ℕ → ℕ → ℕ → List ℕ
+delayed-diamond a b c d = file-in 2 12 diamond-gates (to-in 0 1 a ∷ to-in 0 2 b ∷ to-in 1 3 c ∷ to-in 2 3 d ∷ [])
 
 -- "one gate, delay 5, step (2,3), deadline 8"
 abbrev one-gate : List ℕ
@@ -81,7 +94,7 @@ nines n = replicate n 9
 abbrev nine-slices : ℕ → Slices
 nine-slices n = record { for-widths = nines n; for-gains = nines n }
 
--- the two slices of 513 elements with five pairs in front
+-- the two slices of 513 elements with these five in front
 abbrev pairs : List ℕ → List ℕ → Slices
 pairs ws gs = record { for-widths = ws ++ nines 508; for-gains = gs ++ nines 508 }
 
@@ -124,4 +137,18 @@ table =
       call = find-curve parallel-gates (nine-slices 513);
       expected = gives (3 ∷ 24 * U ∷ 5 ∷ []) (pairs (1 ∷ 2 ∷ 2 ∷ 3 ∷ 3 ∷ []) (52 * U ∷ 51 * U ∷ 47 * U ∷ 24 * U ∷ 21 * U ∷ []));
     }
+    -- K2: wire delays 1, 0, 0 and 2. The path over gate 1 lasts 8 ticks and the one over gate 2 lasts 7, so that gate 2 has one tick more
+    ∷ record {
+      call = find-slacks (delayed-diamond 1 0 0 2) (pos 9 ∷ pos 9 ∷ pos 9 ∷ pos 9 ∷ pos 9 ∷ []);
+      expected = gives (4 ∷ []) (pos 4 ∷ pos 4 ∷ pos 5 ∷ pos 4 ∷ pos 9 ∷ []);
+    }
+    ∷ record { call = judge-list (delayed-diamond 1 0 0 2) (0 ∷ 0 ∷ 1 ∷ 4 ∷ 9 ∷ []); expected = gives (52 * U ∷ []) (0 ∷ 0 ∷ 1 ∷ 4 ∷ 9 ∷ []) }
+    ∷ record { call = judge-list (delayed-diamond 1 0 0 2) (0 ∷ 0 ∷ 2 ∷ 4 ∷ 9 ∷ []); expected = refuses 14 0 (0 ∷ 0 ∷ 2 ∷ 4 ∷ 9 ∷ []) }
+    ∷ record {
+      call = find-curve (delayed-diamond 1 0 0 2) (nine-slices 513);
+      expected = gives (8 ∷ 4 * U ∷ 4 ∷ []) (pairs (5 ∷ 2 ∷ 1 ∷ 2 ∷ 9 ∷ []) (12 * U ∷ 9 * U ∷ 6 * U ∷ 2 * U ∷ 9 ∷ []));
+    }
+    ∷ record { call = find-best (delayed-diamond 1 0 0 2) (nines 5); expected = gives (52 * U ∷ 4 ∷ []) (0 ∷ 0 ∷ 1 ∷ 4 ∷ 9 ∷ []) }
+    -- K2: wire delay 4 on the way to gate 2, whose path is now the longer, 9 ticks to 7
+    ∷ record { call = find-best (delayed-diamond 0 4 0 0) (nines 5); expected = gives (46 * U ∷ 4 ∷ []) (0 ∷ 2 ∷ 0 ∷ 3 ∷ 9 ∷ []) }
     ∷ []

@@ -1,11 +1,12 @@
 //! benchmark: the whole call from file bytes to increases, library against list merging in plain Rust, on the same blocks in
-//! the same run. Each time is the least of several rounds; neither side's buffers are cleared between calls.
+//! the same run, in edition 1 and, with wire delays, in edition 2. Each time is the least of several rounds; neither side's
+//! buffers are cleared between calls.
 
 #[path = "../ffi.rs"]
 mod ffi;
 
 use reference::block::{encode, MAX_GATES};
-use reference::generate::measured_block;
+use reference::generate::{measured_block, measured_with_delays};
 use reference::merging;
 use reference::random::Random;
 use reference::shapes::{wires, Shape, ALL_SHAPES};
@@ -16,6 +17,8 @@ const BLOCKS: usize = 40;
 const LEAST_ROUNDS: usize = 9;
 const LEAST_TIME: Duration = Duration::from_millis(200);
 const SIZES: [usize; 4] = [8, 16, 32, 64];
+/// Wires take up to as long as gates.
+const MOST_WIRE_DELAY: u32 = 50;
 
 /// Microseconds a call, on either side.
 struct Times {
@@ -38,13 +41,19 @@ fn average(files: &[Vec<u8>], mut call: impl FnMut(&[u8])) -> f64 {
     begin.elapsed().as_secs_f64() * 1e6 / files.len() as f64
 }
 
-fn measure(shape: Shape, gates: usize, steps: usize) -> Times {
-    let random = &mut Random::from_seed((100 * gates + steps) as u64);
+/// Block files of one shape; those of edition 2 are those of edition 1 with wire delays and another deadline.
+fn files(edition: u8, shape: Shape, gates: usize, steps: usize) -> Vec<Vec<u8>> {
+    let seed = (100 * gates + steps) as u64;
+    let (random, delays) = (&mut Random::from_seed(seed), &mut Random::from_seed(seed + 1));
     let mut file = || {
         let wires = wires(random, shape, gates);
-        encode(&measured_block(random, gates, wires, steps))
+        let block = measured_block(random, gates, wires, steps);
+        encode(&if edition == 1 { block } else { measured_with_delays(delays, block, MOST_WIRE_DELAY) })
     };
-    let files: Vec<Vec<u8>> = (0..BLOCKS).map(|_| file()).collect();
+    (0..BLOCKS).map(|_| file()).collect()
+}
+
+fn measure(files: &[Vec<u8>]) -> Times {
     let mut least = Times { plain: f64::INFINITY, library: f64::INFINITY };
     let mut bytes = [0; 4 * MAX_GATES];
     let mut increases = [0; MAX_GATES];
@@ -52,10 +61,10 @@ fn measure(shape: Shape, gates: usize, steps: usize) -> Times {
     let mut rounds = 0;
     while rounds < LEAST_ROUNDS || begin.elapsed() < LEAST_TIME {
         rounds += 1;
-        least.plain = least.plain.min(average(&files, |file| {
+        least.plain = least.plain.min(average(files, |file| {
             black_box(merging::best_increases(file, &mut increases)).expect("a block in time");
         }));
-        least.library = least.library.min(average(&files, |file| {
+        least.library = least.library.min(average(files, |file| {
             assert_eq!(black_box(ffi::best_increases(file, &mut bytes)).number, 0);
         }));
     }
@@ -72,25 +81,30 @@ fn exponent(times: &[f64]) -> f64 {
     above / x.iter().map(|a| (a - mx) * (a - mx)).sum::<f64>()
 }
 
+/// Gates, steps and times of random blocks, one size and count of steps after another.
+fn measured(edition: u8) -> Vec<(usize, usize, Times)> {
+    let cells = SIZES.iter().flat_map(|&gates| [1, 4, 8].map(|steps| (gates, steps)));
+    cells.map(|(gates, steps)| (gates, steps, measure(&files(edition, Shape::Random, gates, steps)))).collect()
+}
+
+/// The geometric mean and the greatest of the ratios.
+fn print_ratios(cells: &[(usize, usize, Times)]) {
+    let product: f64 = cells.iter().map(|cell| cell.2.ratio()).product();
+    println!("geometric mean of the ratios: {:.2}", product.powf(1.0 / cells.len() as f64));
+    let worst = cells.iter().max_by(|a, b| a.2.ratio().total_cmp(&b.2.ratio())).expect("a cell");
+    println!("worst ratio: {:.2} ({} gates, {} steps)", worst.2.ratio(), worst.0, worst.1);
+}
+
 fn ratios() {
     println!("ratio = library / plain Rust, microseconds a call: above 1 the library is slower. Plain Rust does not settle ties.");
     println!("gates steps plain (us) library (us) ratio");
-    let mut product = 1.0;
-    let mut worst = (0.0, 0, 0);
-    let mut cells = 0;
-    for gates in SIZES {
-        for steps in [1, 4, 8] {
-            let times = measure(Shape::Random, gates, steps);
-            println!("{gates:5} {steps:5} {:10.2} {:12.2} {:5.2}", times.plain, times.library, times.ratio());
-            product *= times.ratio();
-            cells += 1;
-            if times.ratio() > worst.0 {
-                worst = (times.ratio(), gates, steps);
-            }
-        }
+    let cells = measured(1);
+    for (gates, steps, times) in &cells {
+        println!("{gates:5} {steps:5} {:10.2} {:12.2} {:5.2}", times.plain, times.library, times.ratio());
     }
-    println!("geometric mean of the ratios: {:.2}", f64::powf(product, 1.0 / f64::from(cells)));
-    println!("worst ratio: {:.2} ({} gates, {} steps)", worst.0, worst.1, worst.2);
+    print_ratios(&cells);
+    println!("the same blocks in edition 2 with wire delays up to {MOST_WIRE_DELAY}:");
+    print_ratios(&measured(2));
 }
 
 fn growth() {
@@ -98,7 +112,7 @@ fn growth() {
     println!("shape   steps plain library");
     for shape in ALL_SHAPES {
         for steps in [1, 8] {
-            let times: Vec<Times> = SIZES.iter().map(|&gates| measure(shape, gates, steps)).collect();
+            let times: Vec<Times> = SIZES.iter().map(|&gates| measure(&files(1, shape, gates, steps))).collect();
             let plain: Vec<f64> = times.iter().map(|t| t.plain).collect();
             let library: Vec<f64> = times.iter().map(|t| t.library).collect();
             let name = format!("{shape:?}").to_lowercase();

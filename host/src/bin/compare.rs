@@ -1,4 +1,4 @@
-//! compare [FILES [SEED]]: the layout editor's call against the reference, on random files, valid and damaged.
+//! compare [FILES [SEED]]: the layout editor's call against the reference, on random files of both editions, valid and damaged.
 //! File and lent slice each end before a page that may not be touched, and the file's pages are closed for writing.
 
 #[path = "../ffi.rs"]
@@ -35,7 +35,11 @@ fn run(files: usize, seed: u64) {
                 "compare: seed {seed}: {} files twice, of the second run {sized} sized, {refused} refused",
                 compared.files
             );
-            println!("compare: seed {seed}: of the second run's random files {}", elevens(&compared.places));
+            println!(
+                "compare: seed {seed}: of the second run's random files {}, and {} with wire delays were sized",
+                elevens(&compared.places),
+                compared.delayed
+            );
         }
         Err(difference) => {
             println!("compare: seed {seed}: {difference}");

@@ -1,8 +1,8 @@
 //! compare-resize PROGRAM [FILES [SEED]]: what the printing program writes against the reference's printout.
 
 use reference::block::encode;
-use reference::compare::elevens;
-use reference::generate::{compared_block, most_wires};
+use reference::compare::{elevens, is_delayed};
+use reference::generate::{compared_block, largest_file, most_wires};
 use reference::printout::{printout, MAX_BYTES};
 use reference::random::Random;
 use reference::text::shown;
@@ -64,21 +64,23 @@ fn check_closed_output(program: &str) {
     }
 }
 
-/// Inputs about as long as what decides, and much longer.
+/// Inputs about as long as what decides, and much longer; beyond it no byte counts.
 fn long_inputs() -> Vec<Vec<u8>> {
-    let full = encode(&most_wires());
+    let (d, delayed) = (encode(&worked::diamond(10)), encode(&worked::delayed_diamond([1, 0, 0, 2])));
+    let files = [encode(&most_wires()), largest_file(), d, delayed];
     let mut inputs = Vec::new();
     for length in [MAX_BYTES - 1, MAX_BYTES, MAX_BYTES + 1, 100_000] {
-        for file in [&full, &encode(&worked::diamond(10))] {
+        for file in &files {
             let mut input = file.clone();
             input.resize(length, 3);
+            assert_eq!(printout(&input), printout(&input[..length.min(MAX_BYTES)]));
             inputs.push(input);
         }
     }
     inputs
 }
 
-/// Random block files, every fourth one damaged.
+/// Random block files of either edition, every fourth one damaged.
 fn random_inputs(random: &mut Random, files: u64) -> Vec<Vec<u8>> {
     let mut input = || {
         let file = encode(&compared_block(random, 64));
@@ -91,13 +93,33 @@ fn random_inputs(random: &mut Random, files: u64) -> Vec<Vec<u8>> {
     (0..files).map(|_| input()).collect()
 }
 
-/// Holds what the program writes to the reference's printout; returns the place if that is refusal 11.
-fn compare(program: &str, input: &[u8]) -> Option<u32> {
+/// Holds what the program writes to the reference's printout, and returns that.
+fn compare(program: &str, input: &[u8]) -> String {
     let (found, right) = (written(program, input), printout(input));
     if found != right.as_bytes() {
         fail(format!("wrote\n{}in place of\n{right}for {}", String::from_utf8_lossy(&found), shown(input)));
     }
-    right.strip_prefix("refused 11 ")?.trim_end().parse().ok()
+    right
+}
+
+/// The place, if a printout is refusal 11.
+fn place_of_11(printout: &str) -> Option<u32> {
+    printout.strip_prefix("refused 11 ")?.trim_end().parse().ok()
+}
+
+/// Compares random files; says which there were. It fails if none got 11, or none that was sized has wire delays.
+fn compare_random(program: &str, files: &[Vec<u8>]) -> String {
+    let printouts: Vec<String> = files.iter().map(|input| compare(program, input)).collect();
+    let places: Vec<u32> = printouts.iter().filter_map(|printout| place_of_11(printout)).collect();
+    let given = files.iter().zip(&printouts).filter(|(_, printout)| printout.starts_with("gates"));
+    let delayed = given.filter(|(input, _)| is_delayed(input)).count();
+    if places.is_empty() {
+        fail("no random file got 11".to_string());
+    }
+    if delayed == 0 {
+        fail("no random block with a wire delay above 0 was sized".to_string());
+    }
+    format!("{}, and {delayed} with wire delays were sized", elevens(&places))
 }
 
 fn main() {
@@ -112,11 +134,7 @@ fn main() {
         compare(program, input);
     }
     let drawn = random_inputs(&mut Random::from_seed(seed), files);
-    let places: Vec<u32> = drawn.iter().filter_map(|input| compare(program, input)).collect();
-    if places.is_empty() {
-        fail("no random file got 11".to_string());
-    }
+    let said = compare_random(program, &drawn);
     check_closed_output(program);
-    let printouts = fixed.len() + drawn.len();
-    println!("compare-resize: seed {seed}: {printouts} printouts; of the random files {}", elevens(&places));
+    println!("compare-resize: seed {seed}: {} printouts; of the random files {said}", fixed.len() + drawn.len());
 }

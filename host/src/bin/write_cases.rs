@@ -1,8 +1,11 @@
 //! write-cases DIR: writes DIR/stdin and DIR/stdout of the program `cases`.
-//! write-cases --check DIR: says whether they still are what it would write.
+//! write-cases --resize DIR: writes those of the program `resize`, which reads the longest block file.
+//! write-cases --check [--resize] DIR: says whether they still are what it would write.
 
 use reference::cases::{all, places_of_11, search_agrees, written};
 use reference::compare::elevens;
+use reference::generate::largest_file;
+use reference::printout::printout;
 use std::path::Path;
 use std::process::exit;
 
@@ -19,24 +22,42 @@ fn same(path: &Path, expected: &[u8]) {
     }
 }
 
-fn main() {
-    let arguments: Vec<String> = std::env::args().skip(1).collect();
-    let (check, folder) = match &arguments[..] {
-        [folder] if folder != "--check" => (false, Path::new(folder)),
-        [option, folder] if option == "--check" => (true, Path::new(folder)),
-        _ => fail("usage: write-cases [--check] DIR".to_string()),
-    };
+/// What `cases` reads and must print, and what there is to say of it.
+fn stored_cases() -> (Vec<u8>, String, String) {
     let cases = all();
     let searched = search_agrees(&cases);
     let (input, output) = written(&cases);
+    let elevens = elevens(&places_of_11(&output));
+    let said = format!("cases: {} blocks, {searched} of them also by exhaustive search; {elevens}", cases.len());
+    (input, output, said)
+}
+
+/// The same of `resize`.
+fn longest_file() -> (Vec<u8>, String, String) {
+    let file = largest_file();
+    let output = printout(&file);
+    let said = format!("resize: a file of {} bytes", file.len());
+    (file, output, said)
+}
+
+fn main() {
+    let arguments: Vec<String> = std::env::args().skip(1).collect();
+    let mut words: Vec<&str> = arguments.iter().map(String::as_str).collect();
+    let mut option = |name: &str| {
+        let found = words.first() == Some(&name);
+        words.drain(..usize::from(found));
+        found
+    };
+    let (check, resize) = (option("--check"), option("--resize"));
+    let [folder] = words[..] else { fail("usage: write-cases [--check] [--resize] DIR".to_string()) };
+    let (input, output, said) = if resize { longest_file() } else { stored_cases() };
     for (name, content) in [("stdin", &input[..]), ("stdout", output.as_bytes())] {
-        let path = folder.join(name);
+        let path = Path::new(folder).join(name);
         if check {
             same(&path, content);
         } else if let Err(error) = std::fs::write(&path, content) {
             fail(format!("{}: {error}", path.display()));
         }
     }
-    let elevens = elevens(&places_of_11(&output));
-    println!("cases: {} blocks, {searched} of them also by exhaustive search; {elevens}", cases.len());
+    println!("{said}");
 }

@@ -1,6 +1,7 @@
 //! Reading a block file into arrays, and the refusals 1 to 9.
 
-use crate::block::{refuse, Refusal, MAX_DELAY, MAX_DROP, MAX_GATES, MAX_PROBABILITY, MAX_STEPS, MAX_WIDTH, MAX_WIRES};
+use crate::block::{refuse, Refusal, MAX_DELAY, MAX_DROP, MAX_EDITION, MAX_GATES, MAX_PROBABILITY};
+use crate::block::{MAX_STEPS, MAX_WIDTH, MAX_WIRES, MAX_WIRE_DELAY};
 
 pub struct Netlist {
     pub gates: usize,
@@ -12,8 +13,11 @@ pub struct Netlist {
     /// The steps of gate g are `steps[step_from[g]..step_from[g + 1]]`, each a width and a drop.
     step_from: [u16; MAX_GATES + 1],
     steps: [(u16, u16); MAX_GATES * MAX_STEPS],
+    /// The length of a wire's body: from edition 2 on its delay stands behind its two gates.
+    wire_length: usize,
     pub wires: usize,
     pub wire: [(u8, u8); MAX_WIRES],
+    pub wire_delay: [u16; MAX_WIRES],
     /// Bit b of `follows[a]`: there is a wire from a to b.
     follows: [u64; MAX_GATES],
 }
@@ -45,7 +49,8 @@ impl Netlist {
     pub fn read(file: &[u8]) -> Result<Netlist, Refusal> {
         let header = body(file, 0, 1, |length| length == 8)?;
         let (gates, p) = (usize::from(header[1]), two_bytes(&header[6..]));
-        if header[0] != 1 || gates == 0 || gates > MAX_GATES || p > MAX_PROBABILITY {
+        let edition = header[0];
+        if edition == 0 || edition > MAX_EDITION || gates == 0 || gates > MAX_GATES || p > MAX_PROBABILITY {
             return refuse(4, 0);
         }
         let mut netlist = Netlist {
@@ -57,8 +62,10 @@ impl Netlist {
             activity: [0; MAX_GATES],
             step_from: [0; MAX_GATES + 1],
             steps: [(0, 0); MAX_GATES * MAX_STEPS],
+            wire_length: if edition == 1 { 2 } else { 4 },
             wires: 0,
             wire: [(0, 0); MAX_WIRES],
+            wire_delay: [0; MAX_WIRES],
             follows: [0; MAX_GATES],
         };
         let mut offset = 11;
@@ -102,9 +109,10 @@ impl Netlist {
         if self.wires == MAX_WIRES {
             return refuse(7, offset);
         }
-        let body = body(file, offset, 3, |length| length == 2)?;
+        let body = body(file, offset, 3, |length| length == self.wire_length)?;
         let (from, to) = (usize::from(body[0]), usize::from(body[1]));
-        if from >= self.gates || to >= self.gates {
+        let delay = if body.len() == 4 { two_bytes(&body[2..]) } else { 0 };
+        if from >= self.gates || to >= self.gates || delay > MAX_WIRE_DELAY {
             return refuse(4, offset);
         }
         if from == to || self.follows[from] >> to & 1 == 1 {
@@ -112,8 +120,9 @@ impl Netlist {
         }
         self.follows[from] |= 1 << to;
         self.wire[self.wires] = (from as u8, to as u8);
+        self.wire_delay[self.wires] = delay as u16;
         self.wires += 1;
-        Ok(offset + 5)
+        Ok(offset + 3 + body.len())
     }
 
     pub fn steps(&self, gate: usize) -> &[(u16, u16)] {

@@ -18,14 +18,15 @@ struct Node {
     kind: Kind,
     delay: u32,
     list: List,
+    /// What it is given on the way back.
+    ticks: u64,
 }
 
-const WIRE: Node = Node { kind: Kind::Wire, delay: 0, list: NONE };
-const MAX_NODES: usize = 2 * MAX_GATES + 2;
+/// A wire without delay, which is node 0.
+const WIRE: Node = Node { kind: Kind::Wire, delay: 0, list: NONE, ticks: 0 };
 
 pub struct Tree {
-    nodes: [Node; MAX_NODES],
-    count: usize,
+    nodes: Vec<Node>,
     of_gate: [List; MAX_GATES],
     delay_of_gate: [u32; MAX_GATES],
     store: Store,
@@ -62,6 +63,16 @@ impl Left {
         left
     }
 
+    /// Gives every wire with a delay a node of its own.
+    fn delay_wires(&mut self, netlist: &Netlist, tree: &mut Tree) {
+        for (&(from, to), &delay) in netlist.wire[..netlist.wires].iter().zip(&netlist.wire_delay) {
+            if delay > 0 {
+                let node = tree.add(Node { delay: u32::from(delay), ..WIRE });
+                self.node[usize::from(from)][usize::from(to)] = node + 1;
+            }
+        }
+    }
+
     fn can_go(&self, gate: usize) -> bool {
         self.wires_in[gate] == 1 && self.wires_out[gate] == 1
     }
@@ -71,14 +82,15 @@ impl Tree {
     /// The tree of a block, or refusal 11.
     pub fn reduced(netlist: &Netlist) -> Result<Tree, Refusal> {
         let n = netlist.gates;
+        let delayed = netlist.wire_delay[..netlist.wires].iter().filter(|&&delay| delay > 0).count();
         let mut tree = Tree {
-            nodes: [WIRE; MAX_NODES],
-            count: 1,
+            nodes: Vec::with_capacity(2 * n + delayed),
             of_gate: [NONE; MAX_GATES],
             delay_of_gate: netlist.delay,
             store: Store::with_capacity(8 * MAX_GATES + 1_024),
             at_start: 0,
         };
+        tree.add(WIRE);
         let activities = netlist.input_activities();
         for gate in 0..n {
             tree.of_gate[gate] = tree.store.of_gate(netlist.steps(gate), activities[gate]);
@@ -95,6 +107,7 @@ impl Tree {
     fn reduce(&mut self, netlist: &Netlist) -> Result<u16, Refusal> {
         let last = netlist.gates - 1;
         let mut left = Left::all(netlist);
+        left.delay_wires(netlist, self);
         let mut ready: Vec<usize> = (1..last).filter(|&g| left.can_go(g)).collect();
         let mut remaining = last - 1;
         while let Some(gate) = ready.pop() {
@@ -136,9 +149,8 @@ impl Tree {
     }
 
     fn add(&mut self, node: Node) -> u16 {
-        self.nodes[self.count] = node;
-        self.count += 1;
-        (self.count - 1) as u16
+        self.nodes.push(node);
+        (self.nodes.len() - 1) as u16
     }
 
     fn series(&mut self, before: u16, gate: usize, behind: u16) -> u16 {
@@ -146,7 +158,7 @@ impl Tree {
         let list = self.store.series(one.list, self.of_gate[gate]);
         let list = self.store.series(list, other.list);
         let delay = one.delay + self.delay_of_gate[gate] + other.delay;
-        self.add(Node { kind: Kind::Series(before, gate as u8, behind), delay, list })
+        self.add(Node { kind: Kind::Series(before, gate as u8, behind), delay, list, ticks: 0 })
     }
 
     fn parallel(&mut self, one: u16, other: u16) -> u16 {
@@ -157,19 +169,18 @@ impl Tree {
         let (q_list, q_earned) = self.store.raised(q.list, u64::from(for_other));
         self.at_start += p_earned + q_earned;
         let list = self.store.parallel(p_list, q_list);
-        self.add(Node { kind: Kind::Parallel(one, other, for_one, for_other), delay, list })
+        self.add(Node { kind: Kind::Parallel(one, other, for_one, for_other), delay, list, ticks: 0 })
     }
 
     /// The longest path with no increase.
     pub fn delay(&self) -> u32 {
-        self.nodes[self.count - 1].delay
+        self.nodes[self.nodes.len() - 1].delay
     }
 
     /// Follows the reduction backwards: hands the ticks down to the gates. Returns the saving.
-    pub fn give_back(&self, spare: u64, increases: &mut [u32; MAX_GATES]) -> u64 {
-        let mut ticks = [0u64; MAX_NODES];
-        let root = self.count - 1;
-        ticks[root] = spare;
+    pub fn give_back(&mut self, spare: u64, increases: &mut [u32; MAX_GATES]) -> u64 {
+        let root = self.nodes.len() - 1;
+        self.nodes[root].ticks = spare;
         let mut saving = self.at_start;
         let mut left = spare;
         for pair in self.store.of(self.nodes[root].list) {
@@ -177,18 +188,19 @@ impl Tree {
             saving += taken * pair.gain;
             left -= taken;
         }
-        for node in (0..self.count).rev() {
-            match self.nodes[node].kind {
+        for at in (0..self.nodes.len()).rev() {
+            let node = self.nodes[at];
+            match node.kind {
                 Kind::Wire => {}
                 Kind::Parallel(one, other, for_one, for_other) => {
-                    ticks[usize::from(one)] = ticks[node] + u64::from(for_one);
-                    ticks[usize::from(other)] = ticks[node] + u64::from(for_other);
+                    self.nodes[usize::from(one)].ticks = node.ticks + u64::from(for_one);
+                    self.nodes[usize::from(other)].ticks = node.ticks + u64::from(for_other);
                 }
                 Kind::Series(before, gate, behind) => {
                     let (before, gate, behind) = (usize::from(before), usize::from(gate), usize::from(behind));
                     let lists = [self.nodes[before].list, self.of_gate[gate], self.nodes[behind].list];
-                    let shares = self.store.shares(ticks[node], self.nodes[node].list, lists);
-                    (ticks[before], ticks[behind]) = (shares[0], shares[2]);
+                    let shares = self.store.shares(node.ticks, node.list, lists);
+                    (self.nodes[before].ticks, self.nodes[behind].ticks) = (shares[0], shares[2]);
                     increases[gate] = shares[1] as u32;
                 }
             }

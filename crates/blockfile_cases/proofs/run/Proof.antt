@@ -74,6 +74,12 @@ cast-print-number-3 c = search needs
 print-number-requires-4 : tie.Need-print-number-requires-4
 print-number-requires-4 c κs = search needs
 
+array-read-print-delay : tie.Need-array-read-print-delay
+array-read-print-delay c = search needs
+
+print-delay-requires : tie.Need-print-delay-requires
+print-delay-requires c κs = search needs
+
 slice-aggregate-write-all-2 : tie.Need-slice-aggregate-write-all-2
 slice-aggregate-write-all-2 c = search needs
 
@@ -87,33 +93,4 @@ returns-2 : tie.Need-returns-2
 returns-2 c = search needs
 
 pub run-spec : {M : Type 1} → statement M
-run-spec =
-    tie.close
-    (tie.spec
-    slice-aggregate-read-block
-    slice-aggregate-read-block-2
-    slice-aggregate-read-block-3
-    slice-aggregate-read-block-4
-    slice-aggregate-read-block-5
-    slice-aggregate-read-block-6
-    slice-aggregate-read-block-7
-    slice-aggregate-read-block-8
-    slice-aggregate-read-block-9
-    read-block-requires
-    enum-known-answer
-    print-file-refusal-requires
-    enum-known-answer-2
-    slice-aggregate-write-all
-    write-all-requires
-    print-decimal-requires
-    print-number-requires
-    cast-print-number
-    print-number-requires-2
-    cast-print-number-2
-    print-number-requires-3
-    cast-print-number-3
-    print-number-requires-4
-    slice-aggregate-write-all-2
-    write-all-requires-2
-    returns
-    returns-2)
+run-spec = tie.close (tie.spec slice-aggregate-read-block slice-aggregate-read-block-2 slice-aggregate-read-block-3 slice-aggregate-read-block-4 slice-aggregate-read-block-5 slice-aggregate-read-block-6 slice-aggregate-read-block-7 slice-aggregate-read-block-8 slice-aggregate-read-block-9 read-block-requires enum-known-answer print-file-refusal-requires enum-known-answer-2 slice-aggregate-write-all write-all-requires print-decimal-requires print-number-requires cast-print-number print-number-requires-2 cast-print-number-2 print-number-requires-3 cast-print-number-3 print-number-requires-4 array-read-print-delay print-delay-requires slice-aggregate-write-all-2 write-all-requires-2 returns returns-2)

@@ -1,77 +1,83 @@
--- `blockfile_cases::run_all` is safe and ends. The loop's invariant: no more than the input is passed.
+-- `blockfile_cases::run_all` is safe and ends: every group is longer than its header.
 -- Assumes nothing.
 use borrow.Author.Needs.{needs}
 use Prim.Native.Nat.{_-_, _≤_}
 use native.Mathlib.Omega.{arith}
-use lib.ListN.{length, length-take, length-drop}
+use lib.ListN.{length}
 use Rattle.blockfile_cases.proofs.run_all.Statement.{statement}
 use Rattle.blockfile_cases.proofs.run_all.Tie as tie
 
 abbrev Inv-loop : tie.InvT-loop
-Inv-loop input end at₀ at = at ≤ length input
+Inv-loop input at₀ at = at ≤ length input
 
 abbrev μ-loop : tie.MeasureT-loop
-μ-loop input end at₀ at = length input - at
+μ-loop input at₀ at = length input - at
 
-returns : tie.Need-returns Inv-loop μ-loop
-returns c = search needs
+loop-holds : tie.Need-loop-holds Inv-loop μ-loop
+loop-holds c = search needs
+
+add-loop : tie.Need-add-loop Inv-loop μ-loop
+add-loop c = search needs
+
+add-from : tie.Need-add-from Inv-loop μ-loop
+add-from c = search needs
 
 number-at-requires : tie.Need-number-at-requires Inv-loop μ-loop
-number-at-requires c κs = omega arith
+number-at-requires c κs = search needs
+
+cast-to : tie.Need-cast-to Inv-loop μ-loop
+cast-to c = search needs
+
+add-to : tie.Need-add-to Inv-loop μ-loop
+add-to c = search needs
+
+add-number-at : tie.Need-add-number-at Inv-loop μ-loop
+add-number-at c = search needs
+
+number-at-requires-2 : tie.Need-number-at-requires-2 Inv-loop μ-loop
+number-at-requires-2 c κs = search needs
 
 cast-end : tie.Need-cast-end Inv-loop μ-loop
 cast-end c = search needs
 
-add-end : tie.Need-add-end Inv-loop μ-loop
-add-end c = omega (arith, c .number-at .ok)
+mul-end : tie.Need-mul-end Inv-loop μ-loop
+mul-end c = omega (arith, c .number-at2 .ok)
 
-sub-if2 : tie.Need-sub-if2 Inv-loop μ-loop
-sub-if2 c = omega arith
+add-end : tie.Need-add-end Inv-loop μ-loop
+add-end c = omega (arith, c .before .number-at .ok, c .number-at2 .ok)
+
+returns : tie.Need-returns Inv-loop μ-loop
+returns c = search needs
+
+sub-run-cases : tie.Need-sub-run-cases Inv-loop μ-loop
+sub-run-cases c = search needs
+
+part-run-cases-start : tie.Need-part-run-cases-start Inv-loop μ-loop
+part-run-cases-start c = search needs
+
+part-run-cases-end : tie.Need-part-run-cases-end Inv-loop μ-loop
+part-run-cases-end c = search needs
+
+sub-run-cases-2 : tie.Need-sub-run-cases-2 Inv-loop μ-loop
+sub-run-cases-2 c = search needs
+
+part-run-cases-start-2 : tie.Need-part-run-cases-start-2 Inv-loop μ-loop
+part-run-cases-start-2 c = search needs
+
+part-run-cases-end-2 : tie.Need-part-run-cases-end-2 Inv-loop μ-loop
+part-run-cases-end-2 c = search needs
+
+run-cases-requires : tie.Need-run-cases-requires Inv-loop μ-loop
+run-cases-requires c κs = search needs
+
+loop-less : tie.Need-loop-less Inv-loop μ-loop
+loop-less c = search needs
+
+loop-again : tie.Need-loop-again Inv-loop μ-loop
+loop-again c = search needs
 
 returns-2 : tie.Need-returns-2 Inv-loop μ-loop
 returns-2 c = search needs
 
-loop-holds : tie.Need-loop-holds Inv-loop μ-loop
-loop-holds c = omega arith
-
-sub-loop : tie.Need-sub-loop Inv-loop μ-loop
-sub-loop c = omega arith
-
-sub-run-case : tie.Need-sub-run-case Inv-loop μ-loop
-sub-run-case c = omega arith
-
-part-run-case-start : tie.Need-part-run-case-start Inv-loop μ-loop
-part-run-case-start c = omega arith
-
-part-run-case-end : tie.Need-part-run-case-end Inv-loop μ-loop
-part-run-case-end c = omega arith
-
-add-run-case : tie.Need-add-run-case Inv-loop μ-loop
-add-run-case c = omega arith
-
-sub-run-case-2 : tie.Need-sub-run-case-2 Inv-loop μ-loop
-sub-run-case-2 c = omega arith
-
-part-run-case-start-2 : tie.Need-part-run-case-start-2 Inv-loop μ-loop
-part-run-case-start-2 c = omega arith
-
-part-run-case-end-2 : tie.Need-part-run-case-end-2 Inv-loop μ-loop
-part-run-case-end-2 c = omega arith
-
-run-case-requires : tie.Need-run-case-requires Inv-loop μ-loop
-run-case-requires c κs = rw (length-take, length-drop) (omega arith)
-
-add-at : tie.Need-add-at Inv-loop μ-loop
-add-at c = omega arith
-
-loop-less : tie.Need-loop-less Inv-loop μ-loop
-loop-less c = omega arith
-
-loop-again : tie.Need-loop-again Inv-loop μ-loop
-loop-again c = omega arith
-
-returns-3 : tie.Need-returns-3 Inv-loop μ-loop
-returns-3 c = search needs
-
 pub run-all-spec : {M : Type 1} → statement M
-run-all-spec = tie.close (tie.spec Inv-loop μ-loop returns number-at-requires cast-end add-end sub-if2 returns-2 loop-holds sub-loop sub-run-case part-run-case-start part-run-case-end add-run-case sub-run-case-2 part-run-case-start-2 part-run-case-end-2 run-case-requires add-at loop-less loop-again returns-3)
+run-all-spec = tie.close (tie.spec Inv-loop μ-loop loop-holds add-loop add-from number-at-requires cast-to add-to add-number-at number-at-requires-2 cast-end mul-end add-end returns sub-run-cases part-run-cases-start part-run-cases-end sub-run-cases-2 part-run-cases-start-2 part-run-cases-end-2 run-cases-requires loop-less loop-again returns-2)

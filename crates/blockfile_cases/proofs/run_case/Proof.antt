@@ -1,4 +1,4 @@
--- `blockfile_cases::run_case` is safe: the local file keeps its length of 4,096 bytes over the calls that write it.
+-- `blockfile_cases::run_case` is safe: the local file keeps its length over the calls that write it.
 -- Assumes nothing.
 use borrow.Author.Needs.{needs}
 use mathlib.Core.Path.{sym}
@@ -53,11 +53,7 @@ array-share-prefix-file : tie.Need-array-share-prefix-file
 array-share-prefix-file c = search needs
 
 slice-aggregate-run : tie.Need-slice-aggregate-run
-slice-aggregate-run c =
-    let at-change2 = c .before .before .before .before in
-    let at-change = at-change2 .before .before .before .before .before in
-    let at-copy = at-change .before .before .before .before .before in
-    sym (length-take-le _ _ (omega (arith, at-change2 .change2 .kept .0, at-change .change .kept .0, at-copy .copy .kept .1 .0)))
+slice-aggregate-run c = sym (length-take-le _ _ (omega (arith, c .before .before .before .before .change2 .kept .0, c .before .before .before .before .before .before .before .before .before .change .kept .0, c .before .before .before .before .before .before .before .before .before .before .before .before .before .before .copy .kept .1 .0)))
 
 run-requires : tie.Need-run-requires
 run-requires c κs = search needs

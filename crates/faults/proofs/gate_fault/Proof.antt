@@ -18,61 +18,48 @@ shape-fault-requires c κs = search needs
 returns : tie.Need-returns
 returns c =
     let start = c .before .before .before in
-    c .before .shape-fault .ensures ∙ shape-fails gate (start .args .field) (start .args .body .now) (λ e. c .if1 .taken (c .before .shape-fault .ensures ∙ e))
+    c .before .shape-fault .ensures ∙ shape-fails (gate (start .args .edition)) (start .args .field) (start .args .body .now) (λ e. c .if1 .taken (c .before .shape-fault .ensures ∙ e))
 
 gate-in-range-requires : tie.Need-gate-in-range-requires
 gate-in-range-requires c κs =
     let start = c .before .before .before in
-    shape-fits gate (start .args .field) (length (start .args .body .now)) (sym (c .before .shape-fault .ensures) ∙ c .if1 .left)
+    (start .args .edition, shape-fits (gate (start .args .edition)) (start .args .field) (length (start .args .body .now)) (sym (c .before .shape-fault .ensures) ∙ c .if1 .left))
 
 returns-2 : tie.Need-returns-2
 returns-2 c =
-    let at-shape-fault = c .before .before .before in
-    let start = at-shape-fault .before .before in
-    sym (shape-passes gate (start .args .field) (start .args .body .now) (sym (at-shape-fault .shape-fault .ensures) ∙ c .before .before .if1 .left) ∙ rw (sym (c .before .gate-in-range .ensures) ∙ not-true _ (c .if2 .taken)))
+    let start = c .before .before .before .before .before in
+    sym (shape-passes (gate (start .args .edition)) (start .args .field) (start .args .body .now) (sym (c .before .before .before .shape-fault .ensures) ∙ c .before .before .if1 .left) ∙ rw (sym (c .before .gate-in-range .ensures (start .args .edition)) ∙ not-true _ (c .if2 .taken)))
 
 sub-drops-fall : tie.Need-sub-drops-fall
 sub-drops-fall c =
-    let at-shape-fault = c .before .before .before in
-    let start = at-shape-fault .before .before in
-    let h = gate-length (length (start .args .body .now)) (shape-fits gate (start .args .field) (length (start .args .body .now)) (sym (at-shape-fault .shape-fault .ensures) ∙ c .before .before .if1 .left)) in omega arith
+    let start = c .before .before .before .before .before in
+    let h = gate-length (start .args .edition) (length (start .args .body .now)) (shape-fits (gate (start .args .edition)) (start .args .field) (length (start .args .body .now)) (sym (c .before .before .before .shape-fault .ensures) ∙ c .before .before .if1 .left)) in omega arith
 
 part-drops-fall-start : tie.Need-part-drops-fall-start
 part-drops-fall-start c =
-    let at-shape-fault = c .before .before .before in
-    let start = at-shape-fault .before .before in
-    gate-length (length (start .args .body .now)) (shape-fits gate (start .args .field) (length (start .args .body .now)) (sym (at-shape-fault .shape-fault .ensures) ∙ c .before .before .if1 .left)) .least
+    let start = c .before .before .before .before .before in
+    gate-length (start .args .edition) (length (start .args .body .now)) (shape-fits (gate (start .args .edition)) (start .args .field) (length (start .args .body .now)) (sym (c .before .before .before .shape-fault .ensures) ∙ c .before .before .if1 .left)) .least
 
 part-drops-fall-end : tie.Need-part-drops-fall-end
 part-drops-fall-end c = search needs
 
 drops-fall-requires : tie.Need-drops-fall-requires
 drops-fall-requires c κs =
-    let at-if1 = c .before .before .before in
-    let at-shape-fault = at-if1 .before in
-    let start = at-shape-fault .before .before in
-    let h = gate-length (length (start .args .body .now)) (shape-fits gate (start .args .field) (length (start .args .body .now)) (sym (at-shape-fault .shape-fault .ensures) ∙ at-if1 .if1 .left)) in
+    let start = c .before .before .before .before .before .before in
+    let h = gate-length (start .args .edition) (length (start .args .body .now)) (shape-fits (gate (start .args .edition)) (start .args .field) (length (start .args .body .now)) (sym (c .before .before .before .before .shape-fault .ensures) ∙ c .before .before .before .if1 .left)) in
     rw (steps-part (start .args .body .now), length-drop) (omega arith)
 
 returns-3 : tie.Need-returns-3
 returns-3 c =
-    let at-if2 = c .before .before .before in
-    let at-gate-in-range = at-if2 .before in
-    let at-if1 = at-gate-in-range .before in
-    let at-shape-fault = at-if1 .before in
-    let start = at-shape-fault .before .before in
+    let start = c .before .before .before .before .before .before .before .before in
     let f : falls (steps-in (drop 4 (start .args .body .now))) ≡ true = rw (steps-part (start .args .body .now)) at (sym (c .before .drops-fall .ensures) ∙ c .if3 .taken) in
-    sym (shape-passes gate (start .args .field) (start .args .body .now) (sym (at-shape-fault .shape-fault .ensures) ∙ at-if1 .if1 .left) ∙ rw (sym (at-gate-in-range .gate-in-range .ensures) ∙ not-false _ (at-if2 .if2 .left), f))
+    sym (shape-passes (gate (start .args .edition)) (start .args .field) (start .args .body .now) (sym (c .before .before .before .before .before .before .shape-fault .ensures) ∙ c .before .before .before .before .before .if1 .left) ∙ rw (sym (c .before .before .before .before .gate-in-range .ensures (start .args .edition)) ∙ not-false _ (c .before .before .before .if2 .left), f))
 
 returns-4 : tie.Need-returns-4
 returns-4 c =
-    let at-if2 = c .before .before .before in
-    let at-gate-in-range = at-if2 .before in
-    let at-if1 = at-gate-in-range .before in
-    let at-shape-fault = at-if1 .before in
-    let start = at-shape-fault .before .before in
+    let start = c .before .before .before .before .before .before .before .before in
     let f : falls (steps-in (drop 4 (start .args .body .now))) ≡ false = rw (steps-part (start .args .body .now)) at (sym (c .before .drops-fall .ensures) ∙ c .if3 .left) in
-    sym (shape-passes gate (start .args .field) (start .args .body .now) (sym (at-shape-fault .shape-fault .ensures) ∙ at-if1 .if1 .left) ∙ rw (sym (at-gate-in-range .gate-in-range .ensures) ∙ not-false _ (at-if2 .if2 .left), f))
+    sym (shape-passes (gate (start .args .edition)) (start .args .field) (start .args .body .now) (sym (c .before .before .before .before .before .before .shape-fault .ensures) ∙ c .before .before .before .before .before .if1 .left) ∙ rw (sym (c .before .before .before .before .gate-in-range .ensures (start .args .edition)) ∙ not-false _ (c .before .before .before .if2 .left), f))
 
 pub gate-fault-spec : {M : Type 1} → statement M
 gate-fault-spec = tie.close (tie.spec shape-fault-requires returns gate-in-range-requires returns-2 sub-drops-fall part-drops-fall-start part-drops-fall-end drops-fall-requires returns-3 returns-4)

@@ -1,4 +1,5 @@
-//! Answers that were worked out by hand: document 01's, and those at the boundaries of the refusals.
+//! Answers that were worked out by hand: document 01's, those of blocks with wire delays, and those at the boundaries of the
+//! refusals.
 
 use reference::answers;
 use reference::block::{decode, encode, Refusal, MAX_GATES};
@@ -10,7 +11,7 @@ fn refusal<T>(answer: Result<T, Refusal>) -> Option<(u32, u32)> {
     answer.err().map(|r| (r.number, r.place))
 }
 
-/// Whether a worked block gets the answer that document 01 gives.
+/// Whether a worked block gets the answer that was worked out.
 fn holds(file: &[u8], expected: &Expected) -> bool {
     let best = || answers::best_increases(file, MAX_GATES).expect("best increases");
     let curve = || answers::curve(file, 512, 512).expect("a curve");

@@ -1,29 +1,32 @@
 //! Paths, series-parallel networks, and what the generator makes.
 
-use reference::block::{decode, encode, Block, Gate, Wire};
-use reference::generate::{self, any_block, has_ties, Values, Wires};
+use reference::block::{decode, encode, Block, Wire};
+use reference::generate::{self, any_block, has_ties, in_either_edition, Values, Wires};
 use reference::random::Random;
 use reference::{network, parts, search, timing};
 use std::collections::HashSet;
 
-/// A block whose lists the exhaustive search can try.
+/// A block, in either edition, whose lists the exhaustive search can try.
 pub fn small_block(random: &mut Random, kind: Wires) -> Block {
     loop {
         let values = random.pick(&[Values::Small, Values::Equal]);
         let gates = 1 + random.below(7);
         let block = generate::block(random, kind, values, gates, 2);
+        let block = in_either_edition(random, block);
         if network::check(&block).is_ok() && search::count_of_lists(&block) <= 3_000 {
             return block;
         }
     }
 }
 
-/// Longest path and slacks, carried along the wires, are what the paths say.
+/// Longest path and slacks, carried along the wires, are what the paths say. Returns how many blocks have wire delays.
 pub fn check_paths(random: &mut Random) -> usize {
+    let mut delayed = 0;
     for _ in 0..3_000 {
         let kind = random.pick(&[Wires::SeriesParallel, Wires::General]);
         let block = small_block(random, kind);
-        let delay = |path: &[usize]| path.iter().map(|&g| i64::from(block.gates[g].delay)).sum::<i64>();
+        delayed += usize::from(block.is_delayed());
+        let delay = |path: &[usize]| timing::path_delay(&block, path) as i64;
         let paths = timing::all_paths(&block);
         assert_eq!(paths.iter().map(|p| delay(p)).max(), Some(timing::start(&block) as i64));
         let slacks = timing::slacks(&block);
@@ -32,7 +35,8 @@ pub fn check_paths(random: &mut Random) -> usize {
             assert_eq!(*slack, i64::from(block.deadline) - i64::from(block.arrival) - longest);
         }
     }
-    3_000
+    assert!(delayed > 500);
+    delayed
 }
 
 /// The reduction decides as building up does, and an inner gate is left where both say no; both kinds occur.
@@ -42,6 +46,7 @@ pub fn check_parts(random: &mut Random) -> (usize, usize) {
         let kind = random.pick(&[Wires::SeriesParallel, Wires::Wide, Wires::Nearly, Wires::Nearly, Wires::General]);
         let gates = 1 + random.below(7);
         let block = generate::block(random, kind, Values::Small, gates, 0);
+        let block = in_either_edition(random, block);
         if network::check(&block).is_err() || block.wires.len() > 11 {
             continue;
         }
@@ -60,12 +65,11 @@ pub fn check_parts(random: &mut Random) -> (usize, usize) {
 fn every_network(gates: usize) -> Vec<Block> {
     let ends = |a: usize, b: usize| a != b && a != gates - 1 && b != 0;
     let pairs = (0..gates).flat_map(|a| (0..gates).map(move |b| (a, b)));
-    let wires: Vec<Wire> = pairs.filter(|&(a, b)| ends(a, b)).map(|(from, to)| Wire { from, to }).collect();
-    let gate = Gate { delay: 0, p: 128, steps: Vec::new() };
+    let wires: Vec<Wire> = pairs.filter(|&(a, b)| ends(a, b)).map(|(a, b)| Wire::without_delay(a, b)).collect();
     let mut networks = Vec::new();
     for choice in 0u32..1 << wires.len() {
         let chosen = (0..wires.len()).filter(|i| choice >> i & 1 == 1).map(|i| wires[i]).collect();
-        let block = Block { arrival: 0, deadline: 0, p: 128, gates: vec![gate.clone(); gates], wires: chosen };
+        let block = generate::bare_block(gates, chosen);
         if network::check(&block).is_ok() {
             networks.push(block);
         }
@@ -106,6 +110,7 @@ pub fn check_left(random: &mut Random) -> (usize, usize, usize) {
         let most_gates = if round % 4 == 0 { 64 } else { 10 };
         let gates = 1 + random.below(most_gates);
         let block = generate::block(random, kind, Values::Small, gates, 0);
+        let block = in_either_edition(random, block);
         if network::check(&block).is_err() {
             continue;
         }
@@ -125,12 +130,19 @@ pub fn check_left(random: &mut Random) -> (usize, usize, usize) {
     (yes, small + large, places.len())
 }
 
-/// The generator makes what its kinds promise.
-pub fn check_generator(random: &mut Random) -> usize {
+/// The generator makes what its kinds promise, in edition 1 or, with wire delays, in edition 2.
+pub fn check_generator(random: &mut Random, with_delays: bool) -> usize {
     let (mut loops, mut ends, mut not_series_parallel, mut ties, mut late, mut barely_late, mut full) =
         (0, 0, 0, 0, 0, 0, 0);
-    for _ in 0..4_000 {
+    let mut blocks = 0;
+    while blocks < 4_000 {
         let block = any_block(random, 12);
+        let block = if with_delays { in_either_edition(random, block) } else { block };
+        if block.is_delayed() != with_delays {
+            continue;
+        }
+        blocks += 1;
+        assert_eq!(block.edition, 1 + u8::from(with_delays));
         assert_eq!(decode(&encode(&block)), Ok(block.clone()));
         match network::check(&block) {
             Err(refusal) => {
@@ -149,5 +161,5 @@ pub fn check_generator(random: &mut Random) -> usize {
     }
     let counts = [loops, ends, not_series_parallel, ties, late, barely_late, full];
     assert!(counts.iter().all(|&count| count >= 40), "{counts:?}");
-    4_000
+    blocks
 }

@@ -9,8 +9,8 @@ use Rattle.blockfile.proofs.read.read_gate.Statement.{statement}
 use Rattle.blockfile.proofs.read.read_gate.Tie as tie
 
 -- the field was judged
-field-judged : (c : tie.After-gate-fault) → Judged gate (c .before .before .before .before .before .before .before .before .before .args .file .now) (c .before .before .before .before .before .before .before .before .before .args .offset) (c .gate-fault .result) (c .before .before .due-body .result .now)
-field-judged c = judged gate _ _ _ (c .before .due-field .result) _ (c .before .due-field .ensures) (c .before .before .due-body .ensures .bytes) (c .gate-fault .ensures)
+field-judged : (c : tie.After-gate-fault) → Judged (gate (c .before .before .before .before .before .before .before .before .before .args .edition)) (c .before .before .before .before .before .before .before .before .before .args .file .now) (c .before .before .before .before .before .before .before .before .before .args .offset) (c .gate-fault .result) (c .before .before .due-body .result .now)
+field-judged c = judged (gate (c .before .before .before .before .before .before .before .before .before .args .edition)) _ _ _ (c .before .due-field .result) _ (c .before .due-field .ensures) (c .before .before .due-body .ensures .bytes) (c .gate-fault .ensures)
 
 due-body-requires : tie.Need-due-body-requires
 due-body-requires c κs = search needs
@@ -34,7 +34,7 @@ store-gate-requires c κs =
     let at-if1 = c .before .before .before .before .before in
     let at-gate-fault = at-if1 .before in
     let start = at-gate-fault .before .before .before .before .before .before .before .before .before in
-    (judged-fits (field-judged at-gate-fault) (at-if1 .if1 .left), (start .pre .0, (start .pre .1 .0, start .pre .1 .1)))
+    ((start .args .edition, judged-fits (field-judged at-gate-fault) (at-if1 .if1 .left)), (start .pre .0, (start .pre .1 .0, start .pre .1 .1)))
 
 offset-behind-requires : tie.Need-offset-behind-requires
 offset-behind-requires c κs = search needs

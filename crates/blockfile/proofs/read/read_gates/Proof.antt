@@ -10,16 +10,16 @@ use Rattle.blockfile.proofs.read.read_gates.Statement.{statement}
 use Rattle.blockfile.proofs.read.read_gates.Tie as tie
 
 abbrev Inv-loop : tie.InvT-loop
-Inv-loop file start gates delays₀ activities₀ counts₀ step-widths₀ drops₀ table offset₀ gate₀ delays activities counts step-widths drops offset gate =
+Inv-loop file start edition gates delays₀ activities₀ counts₀ step-widths₀ drops₀ table offset₀ gate₀ delays activities counts step-widths drops offset gate =
     (gate ≤ gates)
     × GateLengths (gate-arrays delays activities counts step-widths drops) (gate-arrays delays₀ activities₀ counts₀ step-widths₀ drops₀)
-    × GatesSoFar file start gate (gate-arrays delays activities counts step-widths drops) offset
+    × GatesSoFar edition file start gate (gate-arrays delays activities counts step-widths drops) offset
 
 abbrev μ-loop : tie.MeasureT-loop
-μ-loop file start gates delays₀ activities₀ counts₀ step-widths₀ drops₀ table offset₀ gate₀ delays activities counts step-widths drops offset gate = gates - gate
+μ-loop file start edition gates delays₀ activities₀ counts₀ step-widths₀ drops₀ table offset₀ gate₀ delays activities counts step-widths drops offset gate = gates - gate
 
 loop-holds : tie.Need-loop-holds Inv-loop μ-loop
-loop-holds c = (omega arith, lengths-same _, gates-none _ _ _)
+loop-holds c = (omega arith, lengths-same _, gates-none _ _ _ _)
 
 read-gate-requires : tie.Need-read-gate-requires Inv-loop μ-loop
 read-gate-requires c κs =
@@ -34,31 +34,31 @@ same-length : tie.Need-same-length Inv-loop μ-loop
 same-length c =
     let at-read-gate = c .before .before .before .before .before .before .before .before .before .before .before .before in
     let at-loop = at-read-gate .before .before .before .before .before .before .before in
-    at-read-gate .read-gate .kept .1 .1 .1 .0 ∙ at-loop .loop .inv .1 .delays
+    at-read-gate .read-gate .kept .1 .1 .1 .1 .0 ∙ at-loop .loop .inv .1 .delays
 
 same-length-2 : tie.Need-same-length-2 Inv-loop μ-loop
 same-length-2 c =
     let at-read-gate = c .before .before .before .before .before .before .before .before .before .before .before .before in
     let at-loop = at-read-gate .before .before .before .before .before .before .before in
-    at-read-gate .read-gate .kept .1 .1 .1 .1 .0 ∙ at-loop .loop .inv .1 .activities
+    at-read-gate .read-gate .kept .1 .1 .1 .1 .1 .0 ∙ at-loop .loop .inv .1 .activities
 
 same-length-3 : tie.Need-same-length-3 Inv-loop μ-loop
 same-length-3 c =
     let at-read-gate = c .before .before .before .before .before .before .before .before .before .before .before .before in
     let at-loop = at-read-gate .before .before .before .before .before .before .before in
-    at-read-gate .read-gate .kept .1 .1 .1 .1 .1 .0 ∙ at-loop .loop .inv .1 .counts
+    at-read-gate .read-gate .kept .1 .1 .1 .1 .1 .1 .0 ∙ at-loop .loop .inv .1 .counts
 
 same-length-4 : tie.Need-same-length-4 Inv-loop μ-loop
 same-length-4 c =
     let at-read-gate = c .before .before .before .before .before .before .before .before .before .before .before .before in
     let at-loop = at-read-gate .before .before .before .before .before .before .before in
-    at-read-gate .read-gate .kept .1 .1 .1 .1 .1 .1 .0 ∙ at-loop .loop .inv .1 .step-widths
+    at-read-gate .read-gate .kept .1 .1 .1 .1 .1 .1 .1 .0 ∙ at-loop .loop .inv .1 .step-widths
 
 same-length-5 : tie.Need-same-length-5 Inv-loop μ-loop
 same-length-5 c =
     let at-read-gate = c .before .before .before .before .before .before .before .before .before .before .before .before in
     let at-loop = at-read-gate .before .before .before .before .before .before .before in
-    at-read-gate .read-gate .kept .1 .1 .1 .1 .1 .1 .1 .0 ∙ at-loop .loop .inv .1 .drops
+    at-read-gate .read-gate .kept .1 .1 .1 .1 .1 .1 .1 .1 .0 ∙ at-loop .loop .inv .1 .drops
 
 returns : tie.Need-returns Inv-loop μ-loop
 returns c =
@@ -87,7 +87,7 @@ loop-again c =
     let at-read-gate = c .before .before .before .before .before .before .before .before .before .before .before .before .before in
     let at-loop-test = at-read-gate .before .before .before .before .before .before in
     let at-loop = at-loop-test .before in
-    (omega (arith, at-loop-test .loop-test .taken), record { delays = at-read-gate .read-gate .kept .1 .1 .1 .0 ∙ at-loop .loop .inv .1 .delays; activities = at-read-gate .read-gate .kept .1 .1 .1 .1 .0 ∙ at-loop .loop .inv .1 .activities; counts = at-read-gate .read-gate .kept .1 .1 .1 .1 .1 .0 ∙ at-loop .loop .inv .1 .counts; step-widths = at-read-gate .read-gate .kept .1 .1 .1 .1 .1 .1 .0 ∙ at-loop .loop .inv .1 .step-widths; drops = at-read-gate .read-gate .kept .1 .1 .1 .1 .1 .1 .1 .0 ∙ at-loop .loop .inv .1 .drops }, gates-more (at-loop .loop .inv .2) _ _ (rw (c .before .passed .given .1) at (at-read-gate .read-gate .ensures)))
+    (omega (arith, at-loop-test .loop-test .taken), record { delays = at-read-gate .read-gate .kept .1 .1 .1 .1 .0 ∙ at-loop .loop .inv .1 .delays; activities = at-read-gate .read-gate .kept .1 .1 .1 .1 .1 .0 ∙ at-loop .loop .inv .1 .activities; counts = at-read-gate .read-gate .kept .1 .1 .1 .1 .1 .1 .0 ∙ at-loop .loop .inv .1 .counts; step-widths = at-read-gate .read-gate .kept .1 .1 .1 .1 .1 .1 .1 .0 ∙ at-loop .loop .inv .1 .step-widths; drops = at-read-gate .read-gate .kept .1 .1 .1 .1 .1 .1 .1 .1 .0 ∙ at-loop .loop .inv .1 .drops }, gates-more (at-loop .loop .inv .2) _ _ (rw (c .before .passed .given .1) at (at-read-gate .read-gate .ensures)))
 
 same-length-6 : tie.Need-same-length-6 Inv-loop μ-loop
 same-length-6 c = c .before .loop .inv .1 .delays

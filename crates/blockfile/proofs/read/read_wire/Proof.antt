@@ -11,9 +11,9 @@ use Rattle.blockfile.proofs.Wires.{two-gates, wire-refused, wire-found}
 use Rattle.blockfile.proofs.read.read_wire.Statement.{statement}
 use Rattle.blockfile.proofs.read.read_wire.Tie as tie
 
--- the field was judged, after any wires that the table holds
-field-judged : (c : tie.After-wire-fault) (ws : List Wire) → Marks (c .before .before .before .before .before .before .before .before .before .args .seen .now) ws → Judged (wire (c .before .before .before .before .before .before .before .before .before .args .gates) ws) (c .before .before .before .before .before .before .before .before .before .args .file .now) (c .before .before .before .before .before .before .before .before .before .args .offset) (c .wire-fault .result) (c .before .before .before .due-body .result .now)
-field-judged c ws m = judged (wire (c .before .before .before .before .before .before .before .before .before .args .gates) ws) _ _ _ (c .before .before .due-field .result) _ (c .before .before .due-field .ensures) (c .before .before .before .due-body .ensures .bytes) (c .wire-fault .ensures ws m)
+-- the field was judged
+field-judged : (c : tie.After-wire-fault) (ws : List Wire) → Marks (c .before .before .before .before .before .before .before .before .before .args .seen .now) ws → Judged (wire (c .before .before .before .before .before .before .before .before .before .args .edition) (c .before .before .before .before .before .before .before .before .before .args .gates) ws) (c .before .before .before .before .before .before .before .before .before .args .file .now) (c .before .before .before .before .before .before .before .before .before .args .offset) (c .wire-fault .result) (c .before .before .before .due-body .result .now)
+field-judged c ws m = judged (wire (c .before .before .before .before .before .before .before .before .before .args .edition) (c .before .before .before .before .before .before .before .before .before .args .gates) ws) _ _ _ (c .before .before .due-field .result) _ (c .before .before .due-field .ensures) (c .before .before .before .due-body .ensures .bytes) (c .wire-fault .ensures ws m)
 
 due-body-requires : tie.Need-due-body-requires
 due-body-requires c κs = search needs
@@ -51,10 +51,8 @@ slice-write-sources c = search needs
 
 shared-slice-read-wide-2 : tie.Need-shared-slice-read-wide-2
 shared-slice-read-wide-2 c =
-    let at-if1 = c .before .before .before in
-    let at-wire-fault = at-if1 .before in
-    let start = at-wire-fault .before .before .before .before .before .before .before .before .before in
-    omega (arith, two-gates (field-judged at-wire-fault (start .pre .1 .1 .1 .0) (start .pre .1 .1 .1 .1)) (at-if1 .if1 .left) .two)
+    let start = c .before .before .before .before .before .before .before .before .before .before .before .before .before in
+    omega (arith, two-gates (field-judged (c .before .before .before .before) (start .pre .1 .1 .1 .0) (start .pre .1 .1 .1 .1)) (c .before .before .before .if1 .left) .two)
 
 wide-requires-2 : tie.Need-wide-requires-2
 wide-requires-2 c κs = search needs
@@ -65,6 +63,11 @@ mul-targets c = search needs
 slice-write-targets : tie.Need-slice-write-targets
 slice-write-targets c = search needs
 
+wire-delay-requires : tie.Need-wire-delay-requires
+wire-delay-requires c κs =
+    let start = c .before .before .before .before .before .before .before .before .before .before .before .before .before .before in
+    two-gates (field-judged (c .before .before .before .before .before) (start .pre .1 .1 .1 .0) (start .pre .1 .1 .1 .1)) (c .before .before .before .before .if1 .left) .long
+
 mul-wire-delays : tie.Need-mul-wire-delays
 mul-wire-delays c = search needs
 
@@ -73,24 +76,19 @@ slice-write-wire-delays c = search needs
 
 shared-slice-read-mark : tie.Need-shared-slice-read-mark
 shared-slice-read-mark c =
-    let at-if1 = c .before .before .before .before .before .before in
-    let at-wire-fault = at-if1 .before in
-    let start = at-wire-fault .before .before .before .before .before .before .before .before .before in
-    omega (arith, two-gates (field-judged at-wire-fault (start .pre .1 .1 .1 .0) (start .pre .1 .1 .1 .1)) (at-if1 .if1 .left) .two)
+    let start = c .before .before .before .before .before .before .before .before .before .before .before .before .before .before .before .before .before in
+    omega (arith, two-gates (field-judged (c .before .before .before .before .before .before .before .before) (start .pre .1 .1 .1 .0) (start .pre .1 .1 .1 .1)) (c .before .before .before .before .before .before .before .if1 .left) .two)
 
 shared-slice-read-mark-2 : tie.Need-shared-slice-read-mark-2
 shared-slice-read-mark-2 c =
-    let at-if1 = c .before .before .before .before .before .before .before in
-    let at-wire-fault = at-if1 .before in
-    let start = at-wire-fault .before .before .before .before .before .before .before .before .before in
-    omega (arith, two-gates (field-judged at-wire-fault (start .pre .1 .1 .1 .0) (start .pre .1 .1 .1 .1)) (at-if1 .if1 .left) .two)
+    let start = c .before .before .before .before .before .before .before .before .before .before .before .before .before .before .before .before .before .before in
+    omega (arith, two-gates (field-judged (c .before .before .before .before .before .before .before .before .before) (start .pre .1 .1 .1 .0) (start .pre .1 .1 .1 .1)) (c .before .before .before .before .before .before .before .before .if1 .left) .two)
 
 mark-requires : tie.Need-mark-requires
 mark-requires c κs =
-    let at-if1 = c .before .before .before .before .before .before .before in
-    let at-wire-fault = at-if1 .before in
-    let start = at-wire-fault .before .before .before .before .before .before .before .before .before in
-    (start .pre .1 .1 .0, (omega (arith, two-gates (field-judged at-wire-fault (start .pre .1 .1 .1 .0) (start .pre .1 .1 .1 .1)) (at-if1 .if1 .left) .source, start .pre .0 .0), omega (arith, two-gates (field-judged at-wire-fault (start .pre .1 .1 .1 .0) (start .pre .1 .1 .1 .1)) (at-if1 .if1 .left) .target, start .pre .0 .0)))
+    let at-if1 = c .before .before .before .before .before .before .before .before in
+    let start = at-if1 .before .before .before .before .before .before .before .before .before .before in
+    (start .pre .1 .1 .0, (omega (arith, two-gates (field-judged (c .before .before .before .before .before .before .before .before .before) (start .pre .1 .1 .1 .0) (start .pre .1 .1 .1 .1)) (at-if1 .if1 .left) .source, start .pre .0 .0), omega (arith, two-gates (field-judged (c .before .before .before .before .before .before .before .before .before) (start .pre .1 .1 .1 .0) (start .pre .1 .1 .1 .1)) (at-if1 .if1 .left) .target, start .pre .0 .0)))
 
 offset-behind-requires : tie.Need-offset-behind-requires
 offset-behind-requires c κs = search needs
@@ -109,12 +107,8 @@ same-length-5 c = search needs
 
 returns-2 : tie.Need-returns-2
 returns-2 c =
-    let at-wide2 = c .before .before .before .before .before .before .before in
-    let at-wide = at-wide2 .before .before in
-    let at-if1 = at-wide .before .before in
-    let at-wire-fault = at-if1 .before in
-    let start = at-wire-fault .before .before .before .before .before .before .before .before .before in
-    wire-found (field-judged at-wire-fault) _ _ _ _ _ _ _ (omega (arith, start .pre .1 .0 .sources, start .pre .0 .1)) (omega (arith, start .pre .1 .0 .targets, start .pre .0 .1)) (omega (arith, start .pre .1 .0 .delays, start .pre .0 .1)) (at-wide .wide .ensures .0) (at-wide2 .wide2 .ensures .0) (c .before .before .before .mark .ensures) (at-if1 .if1 .left) (c .offset-behind .ensures)
+    let start = c .before .before .before .before .before .before .before .before .before .before .before .before .before .before .before .before .before .before .before .before .before .before in
+    wire-found (field-judged (c .before .before .before .before .before .before .before .before .before .before .before .before .before)) _ _ _ _ _ _ _ _ (omega (arith, start .pre .1 .0 .sources, start .pre .0 .1)) (omega (arith, start .pre .1 .0 .targets, start .pre .0 .1)) (omega (arith, start .pre .1 .0 .delays, start .pre .0 .1)) (c .before .before .before .before .before .before .before .before .before .before .wide .ensures .0) (c .before .before .before .before .before .before .before .before .wide2 .ensures .0) (c .before .before .before .before .before .before .before .wire-delay .ensures) (c .before .before .before .mark .ensures) (c .before .before .before .before .before .before .before .before .before .before .before .before .if1 .left) (c .offset-behind .ensures)
 
 pub read-wire-spec : {M : Type 1} → statement M
-read-wire-spec = tie.close (tie.spec due-body-requires due-field-requires wire-fault-requires refusal-of-requires same-length returns shared-slice-read-wide wide-requires mul-sources slice-write-sources shared-slice-read-wide-2 wide-requires-2 mul-targets slice-write-targets mul-wire-delays slice-write-wire-delays shared-slice-read-mark shared-slice-read-mark-2 mark-requires offset-behind-requires same-length-2 same-length-3 same-length-4 same-length-5 returns-2)
+read-wire-spec = tie.close (tie.spec due-body-requires due-field-requires wire-fault-requires refusal-of-requires same-length returns shared-slice-read-wide wide-requires mul-sources slice-write-sources shared-slice-read-wide-2 wide-requires-2 mul-targets slice-write-targets wire-delay-requires mul-wire-delays slice-write-wire-delays shared-slice-read-mark shared-slice-read-mark-2 mark-requires offset-behind-requires same-length-2 same-length-3 same-length-4 same-length-5 returns-2)

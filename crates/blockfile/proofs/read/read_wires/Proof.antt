@@ -11,19 +11,19 @@ use Rattle.blockfile.proofs.read.read_wires.Statement.{statement}
 use Rattle.blockfile.proofs.read.read_wires.Tie as tie
 
 abbrev Inv-loop : tie.InvT-loop
-Inv-loop file start gates sources₀ targets₀ wire-delays₀ seen₀ offset₀ wires₀ sources targets wire-delays seen offset wires =
+Inv-loop file start edition gates sources₀ targets₀ wire-delays₀ seen₀ offset₀ wires₀ sources targets wire-delays seen offset wires =
     (wires ≤ 256)
     × WireLengths (wire-arrays sources targets wire-delays) (wire-arrays sources₀ targets₀ wire-delays₀)
     × (length seen ≡ length seen₀)
-    × WiresSoFar gates file start wires (wire-arrays sources targets wire-delays) seen offset
+    × WiresSoFar edition gates file start wires (wire-arrays sources targets wire-delays) seen offset
 
 abbrev μ-loop : tie.MeasureT-loop
-μ-loop file start gates sources₀ targets₀ wire-delays₀ seen₀ offset₀ wires₀ sources targets wire-delays seen offset wires = 256 - wires
+μ-loop file start edition gates sources₀ targets₀ wire-delays₀ seen₀ offset₀ wires₀ sources targets wire-delays seen offset wires = 256 - wires
 
 loop-holds : tie.Need-loop-holds Inv-loop μ-loop
 loop-holds c =
     let start = c .before .before .before .before .before in
-    (omega arith, wire-lengths-same _, refl, so-far-none _ _ _ _ _ (start .pre .1 .1 .1) (start .pre .0 .0))
+    (omega arith, wire-lengths-same _, refl, so-far-none _ _ _ _ _ _ (start .pre .1 .1 .1) (start .pre .0 .0))
 
 read-wire-requires : tie.Need-read-wire-requires Inv-loop μ-loop
 read-wire-requires c κs =
@@ -55,7 +55,7 @@ loop-again c =
     let at-if2 = at-read-wire .before .before .before .before .before in
     let at-if1 = at-if2 .before in
     let at-loop = at-if1 .before in
-    (omega (arith, at-loop .loop .inv .0, at-if2 .if2 .left), record { sources = at-read-wire .read-wire .kept .1 .1 .1 .1 .0 ∙ at-loop .loop .inv .1 .sources; targets = at-read-wire .read-wire .kept .1 .1 .1 .1 .1 .0 ∙ at-loop .loop .inv .1 .targets; delays = at-read-wire .read-wire .kept .1 .1 .1 .1 .1 .1 .0 ∙ at-loop .loop .inv .1 .delays }, at-read-wire .read-wire .kept .1 .1 .1 .1 .1 .1 .1 .0 ∙ at-loop .loop .inv .2, so-far-more (at-loop .loop .inv .3) _ _ _ (at-if1 .if1 .left) (rw (c .before .passed2 .given .1) at (at-read-wire .read-wire .ensures)))
+    (omega (arith, at-loop .loop .inv .0, at-if2 .if2 .left), record { sources = at-read-wire .read-wire .kept .1 .1 .1 .1 .1 .0 ∙ at-loop .loop .inv .1 .sources; targets = at-read-wire .read-wire .kept .1 .1 .1 .1 .1 .1 .0 ∙ at-loop .loop .inv .1 .targets; delays = at-read-wire .read-wire .kept .1 .1 .1 .1 .1 .1 .1 .0 ∙ at-loop .loop .inv .1 .delays }, at-read-wire .read-wire .kept .1 .1 .1 .1 .1 .1 .1 .1 .0 ∙ at-loop .loop .inv .2, so-far-more (at-loop .loop .inv .3) _ _ _ (at-if1 .if1 .left) (rw (c .before .passed2 .given .1) at (at-read-wire .read-wire .ensures)))
 
 same-length : tie.Need-same-length Inv-loop μ-loop
 same-length c = c .before .loop .inv .1 .sources
@@ -91,25 +91,25 @@ same-length-9 : tie.Need-same-length-9 Inv-loop μ-loop
 same-length-9 c =
     let at-read-wire = c .before .before .before .before .before .before .before .before .before .before .before in
     let at-loop = at-read-wire .before .before .before .before .before .before .before in
-    at-read-wire .read-wire .kept .1 .1 .1 .1 .0 ∙ at-loop .loop .inv .1 .sources
+    at-read-wire .read-wire .kept .1 .1 .1 .1 .1 .0 ∙ at-loop .loop .inv .1 .sources
 
 same-length-10 : tie.Need-same-length-10 Inv-loop μ-loop
 same-length-10 c =
     let at-read-wire = c .before .before .before .before .before .before .before .before .before .before .before in
     let at-loop = at-read-wire .before .before .before .before .before .before .before in
-    at-read-wire .read-wire .kept .1 .1 .1 .1 .1 .0 ∙ at-loop .loop .inv .1 .targets
+    at-read-wire .read-wire .kept .1 .1 .1 .1 .1 .1 .0 ∙ at-loop .loop .inv .1 .targets
 
 same-length-11 : tie.Need-same-length-11 Inv-loop μ-loop
 same-length-11 c =
     let at-read-wire = c .before .before .before .before .before .before .before .before .before .before .before in
     let at-loop = at-read-wire .before .before .before .before .before .before .before in
-    at-read-wire .read-wire .kept .1 .1 .1 .1 .1 .1 .0 ∙ at-loop .loop .inv .1 .delays
+    at-read-wire .read-wire .kept .1 .1 .1 .1 .1 .1 .1 .0 ∙ at-loop .loop .inv .1 .delays
 
 same-length-12 : tie.Need-same-length-12 Inv-loop μ-loop
 same-length-12 c =
     let at-read-wire = c .before .before .before .before .before .before .before .before .before .before .before in
     let at-loop = at-read-wire .before .before .before .before .before .before .before in
-    at-read-wire .read-wire .kept .1 .1 .1 .1 .1 .1 .1 .0 ∙ at-loop .loop .inv .2
+    at-read-wire .read-wire .kept .1 .1 .1 .1 .1 .1 .1 .1 .0 ∙ at-loop .loop .inv .2
 
 returns-3 : tie.Need-returns-3 Inv-loop μ-loop
 returns-3 c =

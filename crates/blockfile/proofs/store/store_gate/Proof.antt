@@ -13,12 +13,12 @@ use Rattle.blockfile.proofs.store.store_gate.Tie as tie
 number-at-requires : tie.Need-number-at-requires
 number-at-requires c κs =
     let start = c .before .before .before .before .before .before in
-    let h = gate-length (length (start .args .body .now)) (start .pre .0) in omega arith
+    let h = gate-length (start .pre .0 .0) (length (start .args .body .now)) (start .pre .0 .1) in omega arith
 
 number-at-requires-2 : tie.Need-number-at-requires-2
 number-at-requires-2 c κs =
     let start = c .before .before .before .before .before .before .before in
-    let h = gate-length (length (start .args .body .now)) (start .pre .0) in omega arith
+    let h = gate-length (start .pre .0 .0) (length (start .args .body .now)) (start .pre .0 .1) in omega arith
 
 mul-delays : tie.Need-mul-delays
 mul-delays c = search needs
@@ -38,12 +38,12 @@ slice-write-activities c = search needs
 sub-store-steps : tie.Need-sub-store-steps
 sub-store-steps c =
     let start = c .before .before .before .before .before .before .before .before .before in
-    let h = gate-length (length (start .args .body .now)) (start .pre .0) in omega arith
+    let h = gate-length (start .pre .0 .0) (length (start .args .body .now)) (start .pre .0 .1) in omega arith
 
 part-store-steps-start : tie.Need-part-store-steps-start
 part-store-steps-start c =
     let start = c .before .before .before .before .before .before .before .before .before in
-    gate-length (length (start .args .body .now)) (start .pre .0) .least
+    gate-length (start .pre .0 .0) (length (start .args .body .now)) (start .pre .0 .1) .least
 
 part-store-steps-end : tie.Need-part-store-steps-end
 part-store-steps-end c = search needs
@@ -51,7 +51,7 @@ part-store-steps-end c = search needs
 store-steps-requires : tie.Need-store-steps-requires
 store-steps-requires c κs =
     let start = c .before .before .before .before .before .before .before .before .before .before .before .before in
-    let h = gate-length (length (start .args .body .now)) (start .pre .0) in let room = start .pre .1 .1 .0 in
+    let h = gate-length (start .pre .0 .0) (length (start .args .body .now)) (start .pre .0 .1) in let room = start .pre .1 .1 .0 in
     ((rw (steps-part (start .args .body .now), length-drop) (omega arith), rw (steps-part (start .args .body .now), length-drop) (omega arith)), (start .pre .1 .0, (room .step-widths, room .drops)))
 
 mul-counts : tie.Need-mul-counts

@@ -3,7 +3,7 @@
 use borrow.Author.Needs.{needs}
 use Prim.Native.Nat.{_≤_}
 use native.Mathlib.Omega.{arith}
-use borrow.Author.Tests.{eq-eqb, ne-eqb, lt-leb, le-leb}
+use borrow.Author.Tests.{lt-leb, le-leb}
 use lib.ListN.{getD}
 use Rattle.model.specs.Field.{number}
 use Rattle.ranges.proofs.limits.block_in_range.Statement.{statement}
@@ -13,42 +13,57 @@ shared-slice-read-if1 : tie.Need-shared-slice-read-if1
 shared-slice-read-if1 c = search needs
 
 returns : tie.Need-returns
-returns c = rw (ne-eqb _ _ (c .if1 .taken))
+returns c = rw (lt-leb 1 (getD (c .before .before .before .args .body .now) 0 0) (omega arith))
 
 shared-slice-read-if2 : tie.Need-shared-slice-read-if2
 shared-slice-read-if2 c = search needs
 
 returns-2 : tie.Need-returns-2
-returns-2 c = rw (eq-eqb _ _ (c .before .before .if1 .left), lt-leb 1 (getD (c .before .before .before .before .before .args .body .now) 1 0) (omega arith))
+returns-2 c = let b = c .before .before .before .before .before .args .body .now in
+    rw (le-leb 1 (getD b 0 0) (omega arith), lt-leb (getD b 0 0) 2 (omega arith))
 
 shared-slice-read-if3 : tie.Need-shared-slice-read-if3
 shared-slice-read-if3 c = search needs
 
 returns-3 : tie.Need-returns-3
 returns-3 c =
-    let at-if1 = c .before .before .before .before in
-    let start = at-if1 .before .before .before in
-    rw (eq-eqb _ _ (at-if1 .if1 .left), le-leb 1 (getD (start .args .body .now) 1 0) (omega arith), lt-leb (getD (start .args .body .now) 1 0) 64 (omega arith))
+    let start = c .before .before .before .before .before .before .before in
+    let b = start .args .body .now in
+    rw (le-leb 1 (getD b 0 0) (omega arith), le-leb (getD b 0 0) 2 (omega arith), lt-leb 1 (getD b 1 0) (omega arith))
+
+shared-slice-read-if4 : tie.Need-shared-slice-read-if4
+shared-slice-read-if4 c = search needs
+
+returns-4 : tie.Need-returns-4
+returns-4 c =
+    let start = c .before .before .before .before .before .before .before .before .before in
+    let b = start .args .body .now in
+    rw (
+      le-leb 1 (getD b 0 0) (omega arith),
+      le-leb (getD b 0 0) 2 (omega arith),
+      le-leb 1 (getD b 1 0) (omega arith),
+      lt-leb (getD b 1 0) 64 (omega arith),
+    )
 
 number-at-requires : tie.Need-number-at-requires
 number-at-requires c κs = search needs
 
-returns-4 : tie.Need-returns-4
-returns-4 c =
-    let at-if1 = c .before .before .before .before .before in
-    let at-shared-slice-known = at-if1 .before .before in
-    let start = at-shared-slice-known .before in
-    let byte = at-shared-slice-known .shared-slice-known .given in
-    let arrival : number (start .args .body .now) 2 ≤ 65535 = omega (arith, byte 2, byte 3) in
-    let deadline : number (start .args .body .now) 4 ≤ 65535 = omega (arith, byte 4, byte 5) in
+returns-5 : tie.Need-returns-5
+returns-5 c =
+    let start = c .before .before .before .before .before .before .before .before .before .before in
+    let b = start .args .body .now in
+    let byte = c .before .before .before .before .before .before .before .before .before .shared-slice-known .given in
+    let arrival : number b 2 ≤ 65535 = omega (arith, byte 2, byte 3) in
+    let deadline : number b 4 ≤ 65535 = omega (arith, byte 4, byte 5) in
     rw (
       c .number-at .ensures,
-      eq-eqb _ _ (at-if1 .if1 .left),
-      le-leb 1 (getD (start .args .body .now) 1 0) (omega arith),
-      le-leb (getD (start .args .body .now) 1 0) 64 (omega arith),
-      le-leb (number (start .args .body .now) 2) 65535 arrival,
-      le-leb (number (start .args .body .now) 4) 65535 deadline,
+      le-leb 1 (getD b 0 0) (omega arith),
+      le-leb (getD b 0 0) 2 (omega arith),
+      le-leb 1 (getD b 1 0) (omega arith),
+      le-leb (getD b 1 0) 64 (omega arith),
+      le-leb (number b 2) 65535 arrival,
+      le-leb (number b 4) 65535 deadline,
     )
 
 pub block-in-range-spec : {M : Type 1} → statement M
-block-in-range-spec = tie.close (tie.spec shared-slice-read-if1 returns shared-slice-read-if2 returns-2 shared-slice-read-if3 returns-3 number-at-requires returns-4)
+block-in-range-spec = tie.close (tie.spec shared-slice-read-if1 returns shared-slice-read-if2 returns-2 shared-slice-read-if3 returns-3 shared-slice-read-if4 returns-4 number-at-requires returns-5)

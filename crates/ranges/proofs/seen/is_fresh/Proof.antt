@@ -13,7 +13,7 @@ shared-slice-read-if1-2 : tie.Need-shared-slice-read-if1-2
 shared-slice-read-if1-2 c = search needs
 
 returns : tie.Need-returns
-returns c = λ ws m. rw (eq-eqb _ _ (c .if1 .taken))
+returns c = λ ws d m. rw (eq-eqb _ _ (c .if1 .taken))
 
 shared-slice-read-pair-place : tie.Need-shared-slice-read-pair-place
 shared-slice-read-pair-place c = search needs
@@ -29,9 +29,8 @@ shared-slice-read-result c = omega arith
 
 returns-2 : tie.Need-returns-2
 returns-2 c =
-    let at-if1 = c .before .before .before .before in
-    let start = at-if1 .before .before .before .before .before in
-    λ ws m. rw (ne-eqb _ _ (at-if1 .if1 .left), c .before .pair-place .ensures) (m .at-pair _ _ (start .pre .1 .0 .0) (start .pre .1 .0 .1))
+    let start = c .before .before .before .before .before .before .before .before .before in
+    λ ws d m. rw (ne-eqb _ _ (c .before .before .before .before .if1 .left), c .before .pair-place .ensures) (m .at-pair _ _ d (start .pre .1 .0 .0) (start .pre .1 .0 .1))
 
 pub is-fresh-spec : {M : Type 1} → statement M
 is-fresh-spec = tie.close (tie.spec shared-slice-read-if1 shared-slice-read-if1-2 returns shared-slice-read-pair-place shared-slice-read-pair-place-2 pair-place-requires shared-slice-read-result returns-2)

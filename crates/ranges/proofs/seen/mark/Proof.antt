@@ -16,7 +16,7 @@ same-length : tie.Need-same-length
 same-length c = search needs
 
 returns : tie.Need-returns
-returns c = λ ws m. rw (c .pair-place .ensures) (marks-more _ ws _ _ (c .before .before .pre .0) (c .before .before .pre .1 .0) (c .before .before .pre .1 .1) m)
+returns c = λ ws d m. rw (c .pair-place .ensures) (marks-more _ ws _ _ d (c .before .before .pre .0) (c .before .before .pre .1 .0) (c .before .before .pre .1 .1) m)
 
 pub mark-spec : {M : Type 1} → statement M
 mark-spec = tie.close (tie.spec pair-place-requires slice-write-seen same-length returns)
