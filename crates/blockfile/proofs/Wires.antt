@@ -24,8 +24,8 @@ use Rattle.fields.specs.Behind.{offset-behind}
 use Rattle.blockfile.specs.Held.{WireArrays, wire-arrays, wire-held, wires-held, WireRoom}
 use Rattle.blockfile.specs.Reads.{WireRead, refusing}
 use Rattle.ranges.specs.Seen.{between, Marks}
+use Rattle.model.proofs.Bodies.{wire-bytes-range}
 use Rattle.ranges.proofs.Pairs.{ends-below}
-use Rattle.ranges.proofs.Wires.{two-at-least}
 use Rattle.blockfile.proofs.Stores.{kept-all, kept-set}
 use Rattle.blockfile.proofs.Judged.{Judged, read-not-refused, judged-refused, judged-fits, judged-found, judged-ranges}
 
@@ -40,7 +40,7 @@ pub two-gates : {ed n : ℕ} {ws : List Wire} {s : List ℕ} {o m : ℕ} {b : Li
 two-gates {ed} {n} {ws} {s} {o} {m} {b} j z =
     let e = ends-below ed n (says (wire ed n ws) b) (judged-ranges j z) in
     let l : length b ≡ wire-bytes ed = eqb-true (length b) (wire-bytes ed) (judged-fits j z) in
-    record { long = l; two = rw l (two-at-least ed); source = e .0; target = e .1 }
+    record { long = l; two = rw l (wire-bytes-range ed .0); source = e .0; target = e .1 }
 
 module _ {s : List ℕ} {o ed n m i : ℕ} {b : List ℕ} {table : List ℕ} (j : (ws : List Wire) → Marks table ws → Judged (wire ed n ws) s o m b) where
   pub wire-refused : (A : WireArrays) (x : Refusal) → (m ≡ 0 → ⊥) → refusal-answer x ≡ refusal m o → WireRead s o ed n i A A table table (Refused x)

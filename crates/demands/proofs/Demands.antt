@@ -12,6 +12,8 @@ use Rattle.lists.specs.Search.{Lowest}
 use Rattle.lists.proofs.Compare.{le-or-lt}
 use Rattle.model.specs.Limits.{max-pairs}
 use Rattle.model.specs.Block.{Block, gate-count, first, last}
+use Rattle.model.specs.Netlist.{Netlist, block-of}
+use Rattle.model.specs.File.{Limited, encode}
 use Rattle.model.specs.Path.{Longest}
 use Rattle.model.specs.Gain.{saving}
 use Rattle.model.specs.InTime.{drawn, InTime, IsStart}
@@ -19,9 +21,11 @@ use Rattle.model.specs.Best.{Best}
 use Rattle.model.specs.Part.{Shape, Whole, SeriesParallel, lone, built}
 use Rattle.model.specs.Slack.{source-delay, required-time, slack, start}
 use Rattle.model.specs.Remainder.{Moment, ReducedTo, Remains}
-use Rattle.model.specs.Refusal.{WellFormed, IllFormed}
+use Rattle.model.specs.Refusal.{SoundNetwork, WellFormed, IllFormed}
 use Rattle.model.specs.Layout.{increase-bytes, list-bytes, GivesLayout, AnswersLayout}
 use Rattle.model.specs.Answer.{Outcome, Slices, accepted, refusal, Line, Judged, ill-formed, well-formed, NotSeriesParallelAt, GivesCurve, GivesBest, AnswersSlacks, AnswersCurve, AnswersBest, AnswersJudge}
+use Rattle.model.proofs.Reading.{read-block-found}
+use Rattle.model.proofs.File.{encode-decodes}
 use Rattle.model.proofs.Slack as paths
 use Rattle.model.proofs.Answer.{ill-unique, eleven-unique}
 use Rattle.parts.proofs.Remainder.{same-gates-left}
@@ -187,3 +191,7 @@ module _ {file : List ℕ} {B : Block} (well : WellFormed file B) where
   -- .. and a gate other than 0 and n − 1 is left exactly when "not series-parallel" is true.
   pub left-when-not-built : ((g : ℕ) × Remains B g) ↔ NotBuilt B
   left-when-not-built = both (left-exactly (as-network well)) not-series-parallel
+
+-- DOCUMENT 02, K2. "The optimum is claimed for both editions": what is said above holds of every well-formed file; and every netlist within the limits, of edition 1 or 2, with whatever wire delays the edition has, is said by such a file if its network is sound.
+pub has-a-file : {N : Netlist} → Limited N → SoundNetwork (block-of N) → WellFormed (encode N) (block-of N)
+has-a-file {N} l sound = record { end = length (encode N); reads = read-block-found (encode N) (encode-decodes l); network = sound }

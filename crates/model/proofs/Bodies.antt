@@ -14,7 +14,7 @@ use Rattle.lists.proofs.Bool.{and-left, and-right, and-both}
 use Rattle.lists.proofs.Over.{length-build, getD-build}
 use Rattle.model.proofs.Fields.{number-two-bytes, two-bytes-number, Bytes}
 use Rattle.model.proofs.Steps.{step-at, steps-by-index}
-use Rattle.model.specs.Limits.{max-steps}
+use Rattle.model.specs.Limits.{max-edition, max-steps}
 use Rattle.model.specs.Block.{Step, Wire}
 use Rattle.model.specs.Netlist.{DrawnGate}
 use Rattle.model.specs.Field.{number, two-bytes}
@@ -57,6 +57,14 @@ length-steps (s ∷ ss) = omega (arith, length-steps ss)
 length-by : (b : Bool) (w : Wire) → T (eqb (length (w .source ∷ w .target ∷ cond b (two-bytes (w .delay)) [])) (cond b 4 2))
 length-by true w = tt
 length-by false w = tt
+
+-- it has room for two gates, and is the longest in the last edition
+two-or-four : (b : Bool) → (2 ≤ cond b 4 2) × (cond b 4 2 ≤ 4)
+two-or-four true = (omega arith, omega arith)
+two-or-four false = (omega arith, omega arith)
+
+pub wire-bytes-range : (ed : ℕ) → (2 ≤ wire-bytes ed) × (wire-bytes ed ≤ wire-bytes max-edition)
+wire-bytes-range ed = two-or-four (has-wire-delays ed)
 
 pub wire-length-fits : (ed n : ℕ) (seen : List Wire) (w : Wire) → T (length-fits (wire ed n seen) (length (wire-body ed w)))
 wire-length-fits ed n seen w = length-by (has-wire-delays ed) w

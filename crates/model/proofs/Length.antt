@@ -3,7 +3,7 @@
 -- Assumes nothing.
 use mathlib.Core.Path.{_≡_, refl}
 use mathlib.Core.List.{List, []}
-use mathlib.Core.Bool.{Bool, true, false, cond, _&&_}
+use mathlib.Core.Bool.{_&&_}
 use Prim.Native.Nat.{ℕ, _+_, _*_, _%_, _≤_}
 use native.Mathlib.Omega.{arith}
 use lib.Dec.{T, leb, eqb, leb→le, eqb→eq}
@@ -12,6 +12,7 @@ use lib.Seq.{take-all}
 use Rattle.lists.proofs.Bool.{and-left, and-right}
 use Rattle.model.proofs.Fields.{length-body}
 use Rattle.model.proofs.Fault.{faultless-from-0}
+use Rattle.model.proofs.Bodies.{wire-bytes-range}
 use Rattle.model.proofs.Reading.{WiresFound, ended, next, wires-found, decoded-is, decoded-to-end}
 use Rattle.model.proofs.Limited.{header-limits}
 use Rattle.model.proofs.Place.{Stage, at-block, at-gates, at-wires, Passed, none-passed, block-passed, gate-passed, gates-passed, wire-passed, block-due, gate-due, wire-due, AtFault, faulty, excess, block-found, gates-found, wire-found}
@@ -19,7 +20,7 @@ use Rattle.model.specs.Limits.{max-edition, max-gates, max-wires, max-st
 use Rattle.model.specs.Block.{Wire}
 use Rattle.model.specs.Netlist.{Netlist}
 use Rattle.model.specs.Field.{header-bytes, body-at, body-to}
-use Rattle.model.specs.File.{Due, block, gate, wire, has-wire-delays, wire-bytes, length-fits, says, fault, found, decode}
+use Rattle.model.specs.File.{Due, block, gate, wire, wire-bytes, length-fits, says, fault, found, decode}
 
 -- bytes of a field's body, at most
 abbrev body-most : Due → ℕ
@@ -44,10 +45,6 @@ gates-most = field-most block + max-gates * gate-most
 abbrev pub file-most : ℕ
 file-most = gates-most + max-wires * wire-most
 
-wire-bytes-most : (f : Bool) → cond f 4 2 ≤ wire-bytes max-edition
-wire-bytes-most true = omega arith
-wire-bytes-most false = omega arith
-
 fitting-length : (k : Due) (l : ℕ) → T (length-fits k l) → l ≤ body-most k
 fitting-length block l t = let e = eqb→eq l 8 t in omega arith
 fitting-length (gate ed) l t =
@@ -55,7 +52,7 @@ fitting-length (gate ed) l t =
     let b = leb l (4 + 4 * max-steps) in
     let c = eqb (l % 4) 0 in
     leb→le l (4 + 4 * max-steps) (and-right a b (and-left (a && b) c t))
-fitting-length (wire ed n seen) l t = rw (eqb→eq l (wire-bytes ed) t) (wire-bytes-most (has-wire-delays ed))
+fitting-length (wire ed n seen) l t = rw (eqb→eq l (wire-bytes ed) t) (wire-bytes-range ed .1)
 
 passed-field : (k : Due) (s : List ℕ) (o : ℕ) → fault k s o ≡ 0 → body-to s o ≤ o + field-most k
 passed-field k s o e =

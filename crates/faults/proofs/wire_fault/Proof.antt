@@ -7,8 +7,8 @@ use native.Mathlib.Omega.{arith}
 use lib.ListN.{length}
 use borrow.Author.Tests.{eqb-true, not-true, not-false}
 use Rattle.model.specs.File.{wire, wire-bytes, delay-in, says}
+use Rattle.model.proofs.Bodies.{wire-bytes-range}
 use Rattle.ranges.proofs.Pairs.{ends-below}
-use Rattle.ranges.proofs.Wires.{two-at-least}
 use Rattle.faults.proofs.Shapes.{wire-shape, shape-fits, shape-passes, shape-fails}
 use Rattle.faults.proofs.wire_fault.Statement.{statement}
 use Rattle.faults.proofs.wire_fault.Tie as tie
@@ -37,7 +37,7 @@ is-fresh-requires c κs =
     let start = c .before .before .before .before .before .before in
     let l = eqb-true (length (start .args .body .now)) (wire-bytes (start .args .edition)) (shape-fits (wire (start .args .edition) 0 []) (start .args .field) (length (start .args .body .now)) (sym (c .before .before .before .shape-fault .ensures) ∙ c .before .before .if1 .left)) in
     let b = ends-below (start .args .edition) (start .args .gates) (says (wire (start .args .edition) 0 []) (start .args .body .now)) (sym (c .before .wire-in-range .ensures) ∙ not-false _ (c .if2 .left)) in
-    (omega (arith, l, two-at-least (start .args .edition)), ((omega (arith, b .0, start .pre), omega (arith, b .1, start .pre)), start .pre .1))
+    (omega (arith, l, wire-bytes-range (start .args .edition) .0), ((omega (arith, b .0, start .pre), omega (arith, b .1, start .pre)), start .pre .1))
 
 returns-3 : tie.Need-returns-3
 returns-3 c =

@@ -2,18 +2,18 @@
 -- Assumes nothing.
 use native.Mathlib.Omega.{arith}
 use borrow.Author.Tests.{le-ltb, lt-ltb}
-use Rattle.ranges.proofs.Wires.{two-at-least}
+use Rattle.model.proofs.Bodies.{wire-bytes-range}
 use Rattle.ranges.proofs.limits.wire_in_range.Statement.{statement}
 use Rattle.ranges.proofs.limits.wire_in_range.Tie as tie
 
 shared-slice-read-if1 : tie.Need-shared-slice-read-if1
-shared-slice-read-if1 c = omega (arith, c .before .before .pre, two-at-least (c .before .before .args .edition))
+shared-slice-read-if1 c = omega (arith, c .before .before .pre, wire-bytes-range (c .before .before .args .edition) .0)
 
 returns : tie.Need-returns
 returns c = rw (le-ltb _ _ (c .if1 .taken))
 
 shared-slice-read-if2 : tie.Need-shared-slice-read-if2
-shared-slice-read-if2 c = omega (arith, c .before .before .before .before .pre, two-at-least (c .before .before .before .before .args .edition))
+shared-slice-read-if2 c = omega (arith, c .before .before .before .before .pre, wire-bytes-range (c .before .before .before .before .args .edition) .0)
 
 returns-2 : tie.Need-returns-2
 returns-2 c = rw (lt-ltb _ _ (c .before .before .if1 .left), le-ltb _ _ (c .if2 .taken))
