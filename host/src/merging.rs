@@ -1,6 +1,6 @@
 //! The paper's list merging (001, section 2.3) with its way back, from file bytes to increases: what the benchmark
 //! compares with. Plain Rust, written for speed as one would without proof: arrays of fixed size, one growing store for
-//! the lists and one for the parts, gates taken away from a work list. Of equally good lists it returns any.
+//! the lists, gates taken away from a work list. Of equally good lists it returns any.
 
 mod lists;
 mod netlist;
@@ -14,7 +14,7 @@ use tree::Tree;
 pub fn best_increases(file: &[u8], increases: &mut [u32; MAX_GATES]) -> Result<(usize, u64), Refusal> {
     let netlist = Netlist::read(file)?;
     netlist.check_network()?;
-    let mut tree = Tree::reduced(&netlist)?;
+    let tree = Tree::reduced(&netlist)?;
     let time = i64::from(netlist.deadline) - i64::from(netlist.arrival);
     let spare = time - i64::from(tree.delay());
     if spare < 0 {

@@ -18,15 +18,17 @@ struct Node {
     kind: Kind,
     delay: u32,
     list: List,
-    /// What it is given on the way back.
-    ticks: u64,
 }
 
 /// A wire without delay, which is node 0.
-const WIRE: Node = Node { kind: Kind::Wire, delay: 0, list: NONE, ticks: 0 };
+const WIRE: Node = Node { kind: Kind::Wire, delay: 0, list: NONE };
+/// Wires with a delay are numbered from here on, each by its own number; they stand in no array of nodes.
+const MAX_NODES: usize = 2 * MAX_GATES + 2;
 
-pub struct Tree {
-    nodes: Vec<Node>,
+pub struct Tree<'a> {
+    netlist: &'a Netlist,
+    nodes: [Node; MAX_NODES],
+    count: usize,
     of_gate: [List; MAX_GATES],
     delay_of_gate: [u32; MAX_GATES],
     store: Store,
@@ -52,25 +54,15 @@ impl Left {
             behind: [0; MAX_GATES],
             node: [[0; MAX_GATES]; MAX_GATES],
         };
-        for &(from, to) in &netlist.wire[..netlist.wires] {
+        for (i, &(from, to)) in netlist.wire[..netlist.wires].iter().enumerate() {
             let (a, b) = (usize::from(from), usize::from(to));
             left.wires_out[a] += 1;
             left.wires_in[b] += 1;
             left.behind[a] ^= to;
             left.before[b] ^= from;
-            left.node[a][b] = 1;
+            left.node[a][b] = if netlist.wire_delay[i] == 0 { 1 } else { (MAX_NODES + i + 1) as u16 };
         }
         left
-    }
-
-    /// Gives every wire with a delay a node of its own.
-    fn delay_wires(&mut self, netlist: &Netlist, tree: &mut Tree) {
-        for (&(from, to), &delay) in netlist.wire[..netlist.wires].iter().zip(&netlist.wire_delay) {
-            if delay > 0 {
-                let node = tree.add(Node { delay: u32::from(delay), ..WIRE });
-                self.node[usize::from(from)][usize::from(to)] = node + 1;
-            }
-        }
     }
 
     fn can_go(&self, gate: usize) -> bool {
@@ -78,19 +70,26 @@ impl Left {
     }
 }
 
-impl Tree {
+/// Gives a node its ticks; a wire with a delay has no place for them and needs none.
+fn give(ticks: &mut [u64; MAX_NODES], number: u16, given: u64) {
+    if let Some(node) = ticks.get_mut(usize::from(number)) {
+        *node = given;
+    }
+}
+
+impl Tree<'_> {
     /// The tree of a block, or refusal 11.
-    pub fn reduced(netlist: &Netlist) -> Result<Tree, Refusal> {
+    pub fn reduced(netlist: &Netlist) -> Result<Tree<'_>, Refusal> {
         let n = netlist.gates;
-        let delayed = netlist.wire_delay[..netlist.wires].iter().filter(|&&delay| delay > 0).count();
         let mut tree = Tree {
-            nodes: Vec::with_capacity(2 * n + delayed),
+            netlist,
+            nodes: [WIRE; MAX_NODES],
+            count: 1,
             of_gate: [NONE; MAX_GATES],
             delay_of_gate: netlist.delay,
             store: Store::with_capacity(8 * MAX_GATES + 1_024),
             at_start: 0,
         };
-        tree.add(WIRE);
         let activities = netlist.input_activities();
         for gate in 0..n {
             tree.of_gate[gate] = tree.store.of_gate(netlist.steps(gate), activities[gate]);
@@ -107,7 +106,6 @@ impl Tree {
     fn reduce(&mut self, netlist: &Netlist) -> Result<u16, Refusal> {
         let last = netlist.gates - 1;
         let mut left = Left::all(netlist);
-        left.delay_wires(netlist, self);
         let mut ready: Vec<usize> = (1..last).filter(|&g| left.can_go(g)).collect();
         let mut remaining = last - 1;
         while let Some(gate) = ready.pop() {
@@ -149,38 +147,48 @@ impl Tree {
     }
 
     fn add(&mut self, node: Node) -> u16 {
-        self.nodes.push(node);
-        (self.nodes.len() - 1) as u16
+        self.nodes[self.count] = node;
+        self.count += 1;
+        (self.count - 1) as u16
+    }
+
+    /// The node of this number.
+    fn node(&self, number: u16) -> Node {
+        match usize::from(number).checked_sub(MAX_NODES) {
+            None => self.nodes[usize::from(number)],
+            Some(wire) => Node { delay: u32::from(self.netlist.wire_delay[wire]), ..WIRE },
+        }
     }
 
     fn series(&mut self, before: u16, gate: usize, behind: u16) -> u16 {
-        let (one, other) = (self.nodes[usize::from(before)], self.nodes[usize::from(behind)]);
+        let (one, other) = (self.node(before), self.node(behind));
         let list = self.store.series(one.list, self.of_gate[gate]);
         let list = self.store.series(list, other.list);
         let delay = one.delay + self.delay_of_gate[gate] + other.delay;
-        self.add(Node { kind: Kind::Series(before, gate as u8, behind), delay, list, ticks: 0 })
+        self.add(Node { kind: Kind::Series(before, gate as u8, behind), delay, list })
     }
 
     fn parallel(&mut self, one: u16, other: u16) -> u16 {
-        let (p, q) = (self.nodes[usize::from(one)], self.nodes[usize::from(other)]);
+        let (p, q) = (self.node(one), self.node(other));
         let delay = p.delay.max(q.delay);
         let (for_one, for_other) = (delay - p.delay, delay - q.delay);
         let (p_list, p_earned) = self.store.raised(p.list, u64::from(for_one));
         let (q_list, q_earned) = self.store.raised(q.list, u64::from(for_other));
         self.at_start += p_earned + q_earned;
         let list = self.store.parallel(p_list, q_list);
-        self.add(Node { kind: Kind::Parallel(one, other, for_one, for_other), delay, list, ticks: 0 })
+        self.add(Node { kind: Kind::Parallel(one, other, for_one, for_other), delay, list })
     }
 
     /// The longest path with no increase.
     pub fn delay(&self) -> u32 {
-        self.nodes[self.nodes.len() - 1].delay
+        self.nodes[self.count - 1].delay
     }
 
     /// Follows the reduction backwards: hands the ticks down to the gates. Returns the saving.
-    pub fn give_back(&mut self, spare: u64, increases: &mut [u32; MAX_GATES]) -> u64 {
-        let root = self.nodes.len() - 1;
-        self.nodes[root].ticks = spare;
+    pub fn give_back(&self, spare: u64, increases: &mut [u32; MAX_GATES]) -> u64 {
+        let mut ticks = [0u64; MAX_NODES];
+        let root = self.count - 1;
+        ticks[root] = spare;
         let mut saving = self.at_start;
         let mut left = spare;
         for pair in self.store.of(self.nodes[root].list) {
@@ -188,19 +196,20 @@ impl Tree {
             saving += taken * pair.gain;
             left -= taken;
         }
-        for at in (0..self.nodes.len()).rev() {
-            let node = self.nodes[at];
-            match node.kind {
+        for node in (0..self.count).rev() {
+            match self.nodes[node].kind {
                 Kind::Wire => {}
                 Kind::Parallel(one, other, for_one, for_other) => {
-                    self.nodes[usize::from(one)].ticks = node.ticks + u64::from(for_one);
-                    self.nodes[usize::from(other)].ticks = node.ticks + u64::from(for_other);
+                    let given = ticks[node];
+                    give(&mut ticks, one, given + u64::from(for_one));
+                    give(&mut ticks, other, given + u64::from(for_other));
                 }
                 Kind::Series(before, gate, behind) => {
-                    let (before, gate, behind) = (usize::from(before), usize::from(gate), usize::from(behind));
-                    let lists = [self.nodes[before].list, self.of_gate[gate], self.nodes[behind].list];
-                    let shares = self.store.shares(node.ticks, node.list, lists);
-                    (self.nodes[before].ticks, self.nodes[behind].ticks) = (shares[0], shares[2]);
+                    let gate = usize::from(gate);
+                    let lists = [self.node(before).list, self.of_gate[gate], self.node(behind).list];
+                    let shares = self.store.shares(ticks[node], self.nodes[node].list, lists);
+                    give(&mut ticks, before, shares[0]);
+                    give(&mut ticks, behind, shares[2]);
                     increases[gate] = shares[1] as u32;
                 }
             }
