@@ -1,12 +1,12 @@
 -- The place of a refusal of 1 to 9 is at most `file-most`, however long the file is: `ill-formed-place`. So it fits in 32 bits: `loading-place`.
 -- The idea: the offset of a field at fault is at most so large (`fault-early`), and a gate's number is below 64.
 -- Assumes nothing.
-use mathlib.Core.Path.{_≡_, sym, subst}
-use mathlib.Core.Logic.{⊎-elim}
-use mathlib.Core.List.{List, [], _∷_, List·Memᴰ·cases-cons, List·Memᴰ·not-nil}
-use Prim.Native.Nat.{ℕ, suc, _^_, _<_, _≤_}
+use mathlib.Core.Path.{_≡_, subst}
+use mathlib.Core.List.{List}
+use Prim.Native.Nat.{ℕ, _^_, _<_, _≤_}
 use native.Mathlib.Omega.{arith}
 use lib.ListN.{length, getD}
+use Rattle.lists.proofs.Member.{placed}
 use Rattle.model.specs.declared.Refusal.{Refusal}
 use Rattle.model.specs.Limits.{max-gates}
 use Rattle.model.specs.Block.{Wire, Block, Stands}
@@ -22,11 +22,10 @@ use Rattle.loading.specs.Loads.{number-of, place-of}
 
 -- a wire within the limits leaves a gate of the block
 leaves-gate : {n a b w : ℕ} (ws : List Wire) → ((i : ℕ) (d : Wire) → i < length ws → WireLimits n (getD ws i d)) → Stands ws a b w → a < n
-leaves-gate [] limits m = absurd (List·Memᴰ·not-nil m)
-leaves-gate {n} {a} {b} {w} (v ∷ ws) limits m =
-    ⊎-elim (λ (e : record { source = a; target = b; delay = w } ≡ v). subst (λ (u : Wire). u .source < n) (sym e) (limits 0 v (omega arith) .source-below))
-    (leaves-gate ws (λ (i : ℕ) (d : Wire) (h : i < length ws). limits (suc i) d (omega arith)))
-    (List·Memᴰ·cases-cons m)
+leaves-gate {n} {a} {b} {w} ws limits m =
+    let v : Wire = record { source = a; target = b; delay = w } in
+    let r = placed ws v m in
+    subst (λ (u : Wire). u .source < n) (r .2) (limits (r .0) v (r .1) .source-below)
 
 module _ (s : List ℕ) (B : Block) (end : ℕ) (e : read-block s ≡ found B end) where
   loop-gate : (g : ℕ) → OnLoop B g → g < max-gates

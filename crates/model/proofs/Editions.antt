@@ -1,30 +1,26 @@
 -- Edition 1 (document 02, K2: "Edition 1 wires have delay 0"): no wire of its blocks takes time (`edition-one`), so that document 01's words hold of them, "a path .. lasts the sum of its gates' delays". Each of its blocks is also that of a file of edition 2, in which every delay is 0 (`edition-one-raised`).
 -- Assumes nothing.
-use mathlib.Core.Path.{_≡_, _∙_, ap, subst}
-use mathlib.Core.Logic.{⊎-elim}
-use mathlib.Core.List.{List, [], _∷_, List·Memᴰ·cases-cons, List·Memᴰ·not-nil}
+use mathlib.Core.Path.{_≡_, subst}
+use mathlib.Core.List.{List, [], _∷_}
 use Prim.Native.Nat.{ℕ}
 use lib.Dec.{T, eqb→eq}
 use lib.ListN.{length}
 use Rattle.lists.specs.Sum.{total}
-use Rattle.lists.proofs.Bool.{and-left, and-right}
+use Rattle.lists.proofs.Member.{placed}
+use Rattle.model.proofs.Every.{every-at}
 use Rattle.model.proofs.Reading.{read-block-found}
 use Rattle.model.proofs.File.{encode-decodes, decoded-is-limited}
 use Rattle.model.proofs.Path.{Passes, Undelayed, ByGates, lasts-its-gates, gates-make-a-path}
 use Rattle.model.specs.Block.{Wire}
 use Rattle.model.specs.Netlist.{Netlist, block-of}
 use Rattle.model.specs.Path.{Path}
-use Rattle.model.specs.File.{Header, block, in-range, every, delay-fits, Limited, found, decode, encode, read-block}
+use Rattle.model.specs.File.{block, in-range, every, delay-fits, header-of, Limited, found, decode, encode, read-block}
 
 all-undelayed : (ws : List Wire) → T (every (delay-fits 1) ws) → Undelayed ws
-unfolding every
-all-undelayed [] t a b w m = absurd (List·Memᴰ·not-nil m)
-all-undelayed (v ∷ ws) t a b w m =
-    ⊎-elim
-    (λ (e : record { source = a; target = b; delay = w } ≡ v).
-    ap (λ (x : Wire). x .delay) e ∙ eqb→eq (v .delay) 0 (and-left (delay-fits 1 v) (every (delay-fits 1) ws) t))
-    (all-undelayed ws (and-right (delay-fits 1 v) (every (delay-fits 1) ws) t) a b w)
-    (List·Memᴰ·cases-cons m)
+all-undelayed ws t a b w m =
+    let v : Wire = record { source = a; target = b; delay = w } in
+    let r = placed ws v m in
+    eqb→eq w 0 (subst (λ (u : Wire). T (delay-fits 1 u)) (r .2) (every-at (delay-fits 1) ws (r .0) v t (r .1)))
 
 module _ (s : List ℕ) {N : Netlist} {o : ℕ} (read : decode s ≡ found N o) (one : N .edition ≡ 1) where
   pub edition-one : Undelayed (block-of N .wires)
@@ -57,9 +53,8 @@ any-delay (w ∷ ws) = any-delay ws
 
 raised-limits : {N : Netlist} → Limited N → N .edition ≡ 1 → Limited (in-edition 2 N)
 raised-limits {N} l one =
-    let head : ℕ → Header = λ (ed : ℕ). record { edition = ed; gate-count = length (N .gates); arrival = N .arrival; deadline = N .deadline; probability = N .probability } in
     record {
-      header = subst (λ (ed : ℕ). T (in-range block (head ed))) one (l .header);
+      header = subst (λ (ed : ℕ). T (in-range block (header-of (in-edition ed N)))) one (l .header);
       gates = l .gates;
       steps = l .steps;
       drops = l .drops;

@@ -1,22 +1,22 @@
 -- The file of a netlist within the limits is of bytes: with `File`, `encode` and `decode` are inverse to each other between netlists within the limits and the files of bytes that are not refused.
 -- Assumes nothing.
-use mathlib.Core.Path.{sym, subst}
+use mathlib.Core.Path.{_≡_, sym, subst}
 use mathlib.Core.List.{List, [], _∷_, _++_, flatMap}
 use mathlib.Core.Bool.{Bool, true, false, cond, _&&_}
 use Prim.Native.Nat.{ℕ, _/_, _%_, _<_, _≤_}
 use native.Mathlib.Omega.{arith}
-use lib.Dec.{T, leb, ltb, ltb→lt, lt→ltb, leb→le}
+use lib.Dec.{T, leb, ltb, ltb→lt, lt→ltb, leb→le, eqb→eq}
 use lib.ListN.{length, getD}
 use Rattle.lists.proofs.Bool.{and-left, and-right, and-both}
 use Rattle.model.proofs.Every.{every-append, every-at}
 use Rattle.model.proofs.Fields.{Bytes, high-byte, low-byte}
-use Rattle.model.proofs.Bodies.{fitting-steps, gate-length-fits}
+use Rattle.model.proofs.Bodies.{fitting-steps, gate-length-fits, wire-bytes-range, wire-length-fits}
 use Rattle.model.proofs.Limited.{HeaderLimits, step-limits, header-limits, wire-ranges}
 use Rattle.model.specs.Limits.{max-steps, max-delay, max-probability, max-gates}
 use Rattle.model.specs.Block.{Step, Wire}
 use Rattle.model.specs.Netlist.{DrawnGate, Netlist}
 use Rattle.model.specs.Field.{two-bytes, field}
-use Rattle.model.specs.File.{Header, block, gate, wire, has-wire-delays, in-range, step-in-range, every, tag-of, header-of, header-body, step-bytes, gate-body, wire-body, encode, Limited}
+use Rattle.model.specs.File.{Header, block, gate, wire, has-wire-delays, wire-bytes, delay-bytes, in-range, step-in-range, every, tag-of, header-of, header-body, step-bytes, gate-body, wire-body, encode, Limited}
 
 byte : ℕ → Bool
 byte b = ltb b 256
@@ -81,18 +81,17 @@ gate-of-bytes ed g t =
     (joined (two-bytes (g .delay)) (two-bytes (g .probability)) (two (g .delay) (omega arith)) (two (g .probability) (omega arith)))
     (fields-of-bytes step-bytes step-in-range step-of-bytes (g .steps) (and-right (a && b) e r)))
 
-wire-body-of-bytes : (f : Bool) (w : Wire) → w .source < 256 → w .target < 256 → w .delay < 65536 → OfBytes (field 3 (w .source ∷ w .target ∷ cond f (two-bytes (w .delay)) []))
-wire-body-of-bytes true w a b d =
-    field-of-bytes 3 (w .source ∷ w .target ∷ two-bytes (w .delay)) (omega arith) (omega arith)
-    (one-more (w .source) (w .target ∷ two-bytes (w .delay)) a (one-more (w .target) (two-bytes (w .delay)) b (two (w .delay) d)))
-wire-body-of-bytes false w a b d =
-    field-of-bytes 3 (w .source ∷ w .target ∷ []) (omega arith) (omega arith)
-    (one-more (w .source) (w .target ∷ []) a (one-more (w .target) [] b none))
+delay-of-bytes : (f : Bool) (d : ℕ) → d < 65536 → OfBytes (cond f (two-bytes d) [])
+delay-of-bytes true d h = two d h
+delay-of-bytes false d h = none
 
 wire-of-bytes : (ed n : ℕ) → n ≤ max-gates → (w : Wire) → T (in-range (wire ed n []) w) → OfBytes (field (tag-of (wire ed 0 [])) (wire-body ed w))
 wire-of-bytes ed n h w t =
     let r = wire-ranges ed n [] w t in
-    wire-body-of-bytes (has-wire-delays ed) w (omega (arith, r .0)) (omega (arith, r .1)) (omega (arith, r .2))
+    let l : length (wire-body ed w) ≡ wire-bytes ed = eqb→eq (length (wire-body ed w)) (wire-bytes ed) (wire-length-fits ed n [] w) in
+    let d : OfBytes (delay-bytes ed (w .delay)) = delay-of-bytes (has-wire-delays ed) (w .delay) (omega (arith, r .2)) in
+    field-of-bytes 3 (wire-body ed w) (omega arith) (omega (arith, l, wire-bytes-range ed .1))
+    (one-more (w .source) (w .target ∷ delay-bytes ed (w .delay)) (omega (arith, r .0)) (one-more (w .target) (delay-bytes ed (w .delay)) (omega (arith, r .1)) d))
 
 every-both : {A : Type 0} (p q : A → Bool) (xs : List A) → T (every p xs) → T (every q xs) → T (every (λ (x : A). p x && q x) xs)
 unfolding every

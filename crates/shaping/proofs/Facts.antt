@@ -3,14 +3,15 @@
 use mathlib.Core.Path.{_≡_, refl, sym, ap, subst}
 use mathlib.Core.Logic.{_≢_, _⊎_, inl, inr}
 use mathlib.Core.Bool.{Bool, true, false, cond}
-use mathlib.Core.List.{List, [], _∷_, List·Memᴰ·cases-cons, List·Memᴰ·not-nil}
+use mathlib.Core.List.{List, [], _∷_}
 use Prim.Native.Nat.{ℕ, suc, _-_, _≤_, _<_}
 use native.Mathlib.Omega.{arith}
 use lib.Dec.{ltb}
 use lib.ListN.{length, getD}
 use Rattle.lists.proofs.Compare.{compared}
+use Rattle.lists.proofs.Member.{placed}
 use Rattle.model.specs.Limits.{max-activity, max-drop}
-use Rattle.model.specs.Block.{Step, Wire, Block, gate, gate-count, first, last, Stands, Joined}
+use Rattle.model.specs.Block.{Step, Wire, Block, gate, gate-count, first, last, Joined}
 use Rattle.model.specs.Gain.{drop-of}
 use Rattle.model.specs.Refusal.{SoundNetwork, into-first, out-of-last}
 use Rattle.model.proofs.Limited.{StepLimits, BlockLimits}
@@ -19,17 +20,6 @@ use Rattle.model.proofs.Turned.{stands-unturned}
 use Rattle.optimum.specs.Gates.{first-drop, Descending}
 use Rattle.optimum.specs.BlockTree.{WiresJoinGates, NoneTwice, Ranges}
 use Rattle.parts.specs.Network.{Network, wire-at}
-
--- a wire that stands in a list has a place there
-placed : {a b w : ℕ} (ws : List Wire) (d : Wire) → Stands ws a b w → (i : ℕ) × (i < length ws) × (getD ws i d ≡ record { source = a; target = b; delay = w })
-placed [] d on = absurd (List·Memᴰ·not-nil on)
-placed {a} {b} {w} (v ∷ ws) d on = by (List·Memᴰ·cases-cons on) (placed ws d)
-  where
-    by : (record { source = a; target = b; delay = w } ≡ v) ⊎ Stands ws a b w
-        → (Stands ws a b w → (i : ℕ) × (i < length ws) × (getD ws i d ≡ record { source = a; target = b; delay = w }))
-        → (i : ℕ) × (i < suc (length ws)) × (getD (v ∷ ws) i d ≡ record { source = a; target = b; delay = w })
-    by (inl e) rest = (0, omega arith, sym e)
-    by (inr m) rest = let r = rest m in let l = r .1 in (suc (r .0), omega arith, r .2)
 
 -- no two places of the list hold wires between the same gates
 abbrev Apart : List Wire → Type 0
