@@ -1,4 +1,4 @@
-/* How much stack a call takes on the blocks of 64 gates that nest deepest, in both editions: stack BYTES fails where one
+/* How much stack a call takes on the blocks of 64 gates that nest deepest, in every edition: stack BYTES fails where one
    takes more. */
 
 #define _GNU_SOURCE
@@ -24,7 +24,7 @@ static void put(uint8_t byte)
     file[length++] = byte;
 }
 
-/* in edition 2 with a delay of 1 */
+/* from edition 2 on with a delay of 1 */
 static void put_wire(int from, int to)
 {
     put(3), put(0), put(edition == 1 ? 2 : 4), put((uint8_t)from), put((uint8_t)to);
@@ -32,7 +32,7 @@ static void put_wire(int from, int to)
         put(0), put(1);
 }
 
-/* the block field and 64 gates of delay 1 with one step, deadline 300 */
+/* the block field and 64 gates of delay 1 with one step, deadline 300; p 128, in edition 3 activity 128 */
 static void put_gates(void)
 {
     static const uint8_t gate[] = {2, 0, 8, 0, 1, 0, 128, 0, 4, 0, 9};
@@ -100,7 +100,7 @@ int main(int count, char **arguments)
     } shapes[] = {{"chain", chain}, {"side by side", beside}, {"ladder", ladder}};
     size_t most = count == 2 ? strtoul(arguments[1], NULL, 10) : 0;
     int right = 1;
-    for (edition = 1; edition <= 2; edition++)
+    for (edition = 1; edition <= 3; edition++)
         for (size_t i = 0; i < sizeof shapes / sizeof shapes[0]; i++) {
             put_gates();
             shapes[i].wires();

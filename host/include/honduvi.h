@@ -32,10 +32,13 @@ typedef struct {
     uint64_t saving;
 } honduvi_answer;
 
-/* Reads the block file of file_len bytes, of edition 1 or 2; in edition 2 each wire has a delay. If it is accepted, the first
-   4n bytes of increases hold the best list: four bytes for each gate in order, high byte first. The bytes beyond are
-   unchanged, and all of them are if it is refused. 256 bytes are enough for every block. A null pointer is allowed with
-   length 0 only. The two areas may not overlap. The call keeps nothing, allocates nothing and always returns. */
+/* Reads the block file of file_len bytes, of edition 1, 2 or 3. From edition 2 on each wire has a delay. In edition 3 the
+   number that the file gives for the switching of the input, and of each gate's output, is its measured activity,
+   transitions in 65,536 clock cycles, 0 to 65,535; up to edition 2 it is the probability p of a 1 in 256ths, and the
+   activity is 2p(256 - p). If the file is accepted, the first 4n bytes of increases hold the best list: four bytes for each
+   gate in order, high byte first. The bytes beyond are unchanged, and all of them are if it is refused. 256 bytes are enough
+   for every block. A null pointer is allowed with length 0 only. The two areas may not overlap. The call keeps nothing,
+   allocates nothing and always returns. */
 honduvi_answer honduvi_best_increases(const uint8_t *file, size_t file_len, uint8_t *increases, size_t increases_len);
 
 #ifdef __cplusplus

@@ -5,20 +5,22 @@ blockfile_cases.py --check DIR: says whether they still are what it would write.
 stdin: groups, one for each edition: the length of a block file and the number of cases (2 bytes each, high byte first), the
 file's bytes, then the cases of 8 bytes: how many bytes of the file are read (2), and two changes, each a place (2) and the byte
 to put there (1); a place beyond the file changes nothing.
-stdout: for each case what document 01, and K2 in document 02, say of the changed file, by the reader below, which shares
+stdout: for each case what document 01, and K2 and K3 in document 02, say of the changed file, by file_reader.py, which shares
 nothing with the crate. Of a file that is read: gates, wires, arrival, deadline, activity of the input, and the delay of the
 first wire if there is one."""
 from itertools import chain, cycle
 
-from small_files import SMALL_FILES
+from editions import WIRE_LENGTH
+from file_reader import Refused, read
+from small_files import PLAIN, SMALL_FILES, head
 from stored import store
 
 MOST_BYTES = 8192
 NOWHERE = 65535
-# the length of a wire's body in each edition
-WIRE_LENGTH = {1: 2, 2: 4}
-# the delays of the wires of edition 2, one after another
+# the delays of the wires from edition 2 on, one after another
 DELAYS = [4095, 0, 256, 255, 1, 3840]
+# the numbers for the switching of the input, of the first gate and of the others
+SWITCHING = {1: (256, 256, 128), 2: (256, 256, 128), 3: (40001, 65535, 513)}
 
 
 def two(number):
@@ -29,79 +31,16 @@ def field(tag, body):
     return [tag] + two(len(body)) + body
 
 
-class Refused(Exception):
-    pass
-
-
-def numbers(body):
-    return [256 * body[i] + body[i + 1] for i in range(0, len(body), 2)]
-
-
-def take(file, at, due, lengths):
-    """The body of the field due at an offset, and the offset behind it."""
-    if len(file) - at < 3:
-        raise Refused(1, at)
-    if file[at] != due:
-        raise Refused(2, at)
-    size = 256 * file[at + 1] + file[at + 2]
-    if size not in lengths:
-        raise Refused(3, at)
-    body = file[at + 3 : at + 3 + size]
-    if len(body) < size:
-        raise Refused(1, at)
-    return body, at + 3 + size
-
-
-def read_gates(file, gates):
-    """The offset behind the gate fields."""
-    at = 11
-    for _ in range(gates):
-        tag_at = at
-        body, at = take(file, at, 2, {4 + 4 * k for k in range(9)})
-        delay, p, *steps = numbers(body)
-        widths, drops = steps[0::2], steps[1::2]
-        if delay > 4095 or p > 256 or not all(1 <= w <= 4095 for w in widths) or not all(1 <= d <= 1000 for d in drops):
-            raise Refused(4, tag_at)
-        if any(drops[i] <= drops[i + 1] for i in range(len(drops) - 1)):
-            raise Refused(5, tag_at)
-    return at
-
-
-def read_wires(file, at, edition, gates):
-    """The delay of each wire, in file order."""
-    delays = {}
-    while at < len(file):
-        if len(delays) == 256:
-            raise Refused(7, at)
-        tag_at = at
-        (source, target, *delay), at = take(file, at, 3, {WIRE_LENGTH[edition]})
-        ticks = numbers(delay)[0] if delay else 0
-        if source >= gates or target >= gates or ticks > 4095:
-            raise Refused(4, tag_at)
-        if source == target or (source, target) in delays:
-            raise Refused(6, tag_at)
-        delays[source, target] = ticks
-    return list(delays.values())
-
-
-def read(file):
-    (edition, gates, *times), _ = take(file, 0, 1, {8})
-    arrival, deadline, p = numbers(times)
-    if edition not in WIRE_LENGTH or not 1 <= gates <= 64 or p > 256:
-        raise Refused(4, 0)
-    delays = read_wires(file, read_gates(file, gates), edition, gates)
-    return gates, len(delays), arrival, deadline, 2 * p * (256 - p), *delays[:1]
-
-
 class Whole:
     """A file of 17 gates, the first of which has 8 steps, and 256 wires: its bytes, its size, and the offsets of some fields.
-    One more byte, in edition 2 one more wire, stands behind it."""
+    One more byte, from edition 2 on one more wire, stands behind it."""
 
     def __init__(self, edition):
-        block = field(1, [edition, 17] + two(0) + two(65535) + two(256))
+        of_input, of_first, of_others = map(two, SWITCHING[edition])
+        block = field(1, [edition, 17] + two(0) + two(65535) + of_input)
         steps = [n for k in range(8) for n in two(4095) + two(1000 - k)]
         gates_at, wires_at = [], []
-        for body in [two(4095) + two(256) + steps] + [two(g) + two(128) for g in range(16)]:
+        for body in [two(4095) + of_first + steps] + [two(g) + of_others for g in range(16)]:
             gates_at.append(len(block))
             block += field(2, body)
         wires = [[a, b] for a in range(17) for b in range(17) if a != b]
@@ -144,7 +83,7 @@ def tags_and_lengths(whole):
 
 def ranges_and_drops(whole):
     # edition, gate count, p 257 of the input, arrival; 65 gates without any field of one; p 128 of the input
-    for edition in (0, 2, 3, 255):
+    for edition in (0, 2, 3, 4, 255):
         yield whole.size, (3, edition)
     for change in ((4, 0), (4, 1), (4, 16), (4, 18), (4, 64), (4, 65), (4, 255), (10, 1), (5, 255)):
         yield whole.size, change
@@ -196,15 +135,15 @@ def like_small_files(whole):
 def editions(whole):
     """The edition decides what length a wire has, and is judged before it."""
     wire = whole.wire
-    for edition in (0, 1, 2, 3, 255):
+    for edition in (0, 1, 2, 3, 4, 255):
         yield whole.size, (3, edition)
-    yield whole.size, (3, 3), (wire + 2, 9)
+    yield whole.size, (3, 4), (wire + 2, 9)
     # edition 1 with a first wire of 2 bytes, behind which no tag stands; a wire of 2 bytes in edition 2
     yield whole.size, (3, 1), (wire + 2, 2)
     yield whole.size, (wire + 2, 2)
     # no wire; one gate, in each edition
     yield wire,
-    for edition in (1, 2, 3):
+    for edition in (1, 2, 3, 4):
         yield whole.second, (4, 1), (3, edition)
 
 
@@ -250,9 +189,54 @@ def wires_with_delays(whole):
     yield whole.size, (wire + 5, 16), (second + 2, 2)
 
 
+def probabilities(whole):
+    """p 257 and 512 of the input, and of a gate."""
+    for high, low in ((9, 10), (whole.first + 5, whole.first + 6)):
+        yield whole.size, (low, 1)
+        yield whole.size, (high, 2)
+
+
+def activities(whole):
+    """Every number of the input and of gates is in range; high byte and low byte."""
+    for number in (0, 1, 255, 256, 257, 511, 512, 32767, 32768, 32769, 65280, 65534, 65535):
+        yield whole.size, (9, number >> 8), (10, number & 255)
+        yield whole.size, (whole.first + 5, number >> 8), (whole.first + 6, number & 255)
+    for number in (0, 256, 257, 65535):
+        yield whole.size, (whole.third + 5, number >> 8), (whole.third + 6, number & 255)
+
+
+def editions_of_activities(whole):
+    """Another edition: the number of the input is out of range in 1 and 2, and where it is not, that of the first gate."""
+    for edition in (0, 1, 2, 4, 5, 255):
+        yield whole.size, (3, edition)
+    for edition in (1, 2):
+        yield whole.size, (3, edition), (9, 0)
+    yield whole.size, (3, 4), (whole.wire + 2, 2)
+
+
+def faults_beside_activities(whole):
+    """Each field cut behind its number's high byte; gate counts; a gate's delay, width, drop and falling drops; wires."""
+    body, wire = whole.first + 3, whole.wire
+    for size in (10, 11, body + 3, body + 4, wire, wire + 3, wire + 6, whole.wire_2, whole.size, len(whole.file)):
+        yield size,
+    for gates in (0, 1, 16, 18, 65):
+        yield whole.size, (4, gates)
+    yield whole.size, (body, 16), (body + 1, 0)
+    yield whole.size, (body + 4, 0), (body + 5, 0)
+    yield whole.size, (body + 6, 3), (body + 7, 233)
+    yield whole.size, (body + 11, 1000 & 255)
+    for size in (0, 2, 3, 5, 260):
+        yield whole.size, (wire + 1, size >> 8), (wire + 2, size & 255)
+    for delay in (0, 256, 4095, 4096, 65535):
+        yield whole.size, (wire + 5, delay >> 8), (wire + 6, delay & 255)
+    yield whole.size, (wire + 4, 0)
+    yield whole.size, (whole.wire_2 + 4, 1)
+
+
 CASES = {
     1: (sizes, tags_and_lengths, ranges_and_drops, wires, like_small_files),
-    2: (wire_fields, editions, wire_delays, wires, wires_with_delays),
+    2: (wire_fields, editions, wire_delays, wires, wires_with_delays, probabilities),
+    3: (activities, editions_of_activities, faults_beside_activities),
 }
 
 
@@ -265,10 +249,12 @@ def outcome(file):
 
 
 def check_by_hand():
-    """The reader agrees with what was found by hand."""
+    """The reader agrees with what was found by hand, and says the activity of the input."""
     for file, right in SMALL_FILES:
         word, numbers = outcome(list(file))
         assert (numbers[1] if word == "read" else numbers) == right, file
+    for edition, switching, right in ((1, 1, 510), (2, 128, 32768), (3, 1, 1), (3, 128, 128), (3, 257, 257), (3, 65535, 65535)):
+        assert read(list(head(1, *two(switching), edition) + PLAIN))[4] == right, (edition, switching)
 
 
 def group(edition):

@@ -3,16 +3,16 @@
 calls_cases.py --check DIR: says whether they still are what it would write.
 
 stdin: records, each the length of a block file (2 bytes, high byte first), four increases of 4 bytes each, and the file's bytes.
-stdout: for each record what document 01, and K2 in document 02, say of the slacks, to six lent elements and to three, and of
-the judging of the four increases and of the first three, by the reader of second_opinion.py, which shares nothing with the
-crate. Lent elements that are not written stay 77777; a slack below 0 is printed as late."""
+stdout: for each record what document 01, and K2 and K3 in document 02, say of the slacks, to six lent elements and to three,
+and of the judging of the four increases and of the first three, by the reader of second_opinion.py, which shares nothing with
+the crate. Lent elements that are not written stay 77777; a slack below 0 is printed as late."""
 from pathlib import Path
 
 from second_opinion import Block, Refused
 from small_files import SMALL_FILES
 from stored import store
 
-MOST_BYTES = 4096
+MOST_BYTES = 8192
 ROOT = Path(__file__).resolve().parents[2]
 UNWRITTEN = 77777
 
@@ -25,20 +25,33 @@ def field(tag, body):
     return bytes([tag]) + two(len(body)) + body
 
 
-def block_file(deadline, gates, wires, arrival=0, p=128, delays=None):
-    """Gates are (delay, p, steps). With delays of the wires it is of edition 2."""
-    head = bytes([1 if delays is None else 2, len(gates)]) + two(arrival) + two(deadline) + two(p)
-    file = field(1, head)
-    for delay, gate_p, steps in gates:
-        file += field(2, two(delay) + two(gate_p) + b"".join(two(w) + two(d) for w, d in steps))
+def block_file(deadline, gates, wires, arrival=0, switching=128, delays=None, edition=None):
+    """Gates are (delay, number for the switching of the output, steps). Where no edition is said, it is of edition 2 with
+    delays of the wires, else of edition 1."""
+    edition = edition or (1 if delays is None else 2)
+    file = field(1, bytes([edition, len(gates)]) + two(arrival) + two(deadline) + two(switching))
+    for delay, gate_switching, steps in gates:
+        file += field(2, two(delay) + two(gate_switching) + b"".join(two(w) + two(d) for w, d in steps))
     behind = [b""] * len(wires) if delays is None else map(two, delays)
     return file + b"".join(field(3, bytes(wire) + delay) for wire, delay in zip(wires, behind))
 
 
-def diamond(deadline, arrival=0, delays=None):
+def diamond(deadline, arrival=0, delays=None, edition=None, switching=(128,) * 5):
+    """D, with these numbers for the switching of its input and of its gates' outputs."""
     steps = [[], [(2, 5), (3, 2)], [(4, 4)], [(5, 6)]]
-    gates = [(delay, 128, some) for delay, some in zip([2, 3, 1, 2], steps)]
-    return block_file(deadline, gates, [(0, 1), (0, 2), (1, 3), (2, 3)], arrival, delays=delays)
+    of_input, *of_gates = switching
+    gates = list(zip([2, 3, 1, 2], of_gates, steps))
+    return block_file(deadline, gates, [(0, 1), (0, 2), (1, 3), (2, 3)], arrival, of_input, delays, edition)
+
+
+def measured_diamond(deadline, activities, delays=(0,) * 4):
+    """D in edition 3, with these activities of its input and of its gates' outputs."""
+    return diamond(deadline, delays=delays, edition=3, switching=activities)
+
+
+def measured_gate(activity, edition=3):
+    """One gate, delay 5, step (2,3), deadline 8, with this activity of its input."""
+    return block_file(8, [(5, 65535, [(2, 3)])], [], switching=activity, edition=edition)
 
 
 def plain(n, wires, deadline=100):
@@ -57,7 +70,7 @@ def records():
     lone = [(5, 128, [(2, 3)])]
     yield block_file(8, lone, []), (2, 0, 0, 0)
     yield block_file(8, lone, []), (3, 0, 0, 0)
-    yield block_file(8, lone, [], p=0), (2, 0, 0, 0)
+    yield block_file(8, lone, [], switching=0), (2, 0, 0, 0)
     yield plain(4, [(0, 1), (0, 2), (1, 2), (1, 3), (2, 3)]), (0, 0, 0, 0)
     yield plain(4, [(0, 1), (1, 2), (2, 1), (2, 3)]), (0, 0, 0, 0)
     yield plain(4, [(0, 1), (1, 3)]), (0, 0, 0, 0)
@@ -71,6 +84,8 @@ def records():
     yield from delayed_records()
     for file, _ in SMALL_FILES:
         yield file, (0, 0, 0, 0)
+    for file, increases, _ in measured_records():
+        yield file, increases
 
 
 def delayed_records():
@@ -92,6 +107,31 @@ def delayed_records():
     # a bridge
     across = [(0, 1), (0, 2), (1, 2), (1, 3), (2, 3)]
     yield block_file(20, [(1, 128, [(4, 3)])] * 4, across, delays=[3, 1, 4, 1, 5]), (1, 0, 0, 1)
+
+
+def measured_records():
+    """Records of edition 3, with what judging says of the four increases, by hand."""
+    low, counter = (1, 3, 5, 7, 11), (32768, 16384, 8192, 4096, 2048)
+    yield measured_diamond(10, low), (0, 0, 2, 3), 240
+    yield measured_diamond(10, low), (0, 2, 4, 1), 150
+    yield measured_diamond(10, low), (0, 0, 2, 4), (14, 0)
+    yield measured_diamond(10, low), (0, 6, 0, 0), (13, 1)
+    yield measured_diamond(14, (65535,) * 5), (0, 2, 4, 5), 5636010
+    yield measured_diamond(10, counter), (0, 2, 4, 1), 499712
+    yield measured_diamond(14, (0,) * 5), (0, 2, 4, 5), 0
+    yield measured_diamond(14, (9, 0, 5, 7, 11)), (0, 2, 4, 5), 360
+    # with wire delays; late only by that of 2-3; with no tick to spare
+    yield measured_diamond(12, low, [1, 0, 0, 2]), (0, 0, 1, 4), 300
+    yield measured_diamond(12, low, [1, 0, 0, 2]), (0, 0, 2, 4), (14, 0)
+    yield measured_diamond(8, low, [1, 0, 0, 2]), (0, 0, 1, 0), 12
+    # both bytes of an activity count; nothing comes of a formula
+    for activity, saving in ((0, 0), (1, 6), (128, 768), (256, 1536), (257, 1542), (32769, 196614), (65535, 393210)):
+        yield measured_gate(activity), (2, 0, 0, 0), saving
+    # a number above 256 in editions 1 and 2; edition 4; wires of 2 bytes in edition 3
+    yield measured_gate(257, edition=1), (2, 0, 0, 0), (4, 0)
+    yield diamond(10, delays=[0] * 4, edition=2, switching=(1, 3, 257, 7, 11)), (0, 0, 2, 3), (4, 18)
+    yield diamond(10, delays=[0] * 4, edition=4), (0, 0, 2, 3), (4, 0)
+    yield diamond(10, edition=3), (0, 0, 2, 3), (3, 55)
 
 
 def answered(call):
@@ -127,11 +167,16 @@ def judge_line(block, increases):
 
 
 def check_by_hand():
-    """The bytes of D, without and with wire delays, are those stored; the reader agrees with what was found by hand."""
+    """The bytes of D, without and with wire delays and with measured activities, are those stored; the reader agrees with what
+    was found by hand."""
     assert diamond(10) == (ROOT / "examples" / "diamond.block").read_bytes()
     delayed = diamond(12, delays=[1, 0, 0, 2])
     assert delayed == (ROOT / "examples" / "delays.block").read_bytes()
     assert Block(delayed).slacks() == [4, 4, 5, 4] and Block(delayed).judge([0, 0, 1, 4]) == 52 * 32768
+    assert measured_diamond(10, (32768, 16384, 8192, 4096, 2048)) == (ROOT / "examples" / "measured.block").read_bytes()
+    for file, increases, right in measured_records():
+        judged = answered(lambda: Block(file).judge(increases))
+        assert (judged.args if isinstance(judged, Refused) else judged) == right, file
     for file, right in SMALL_FILES:
         block = answered(lambda: Block(file))
         assert (block.args if isinstance(block, Refused) else len(block.wires)) == right, file

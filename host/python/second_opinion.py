@@ -1,4 +1,4 @@
-"""A second reader of document 01, and of K1 and K2 in document 02, in another language: holds the stored cases to them.
+"""A second reader of document 01, and of K1, K2 and K3 in document 02, in another language: holds the stored cases to them.
 
 second_opinion.py DIR reads DIR/stdin and DIR/stdout as host/CASES.md describes them. Which lines there are, refusals, slacks
 and judging are checked for every case, the place of 11 by taking gates away and merging wires in several orders; the best list
@@ -6,28 +6,28 @@ and the curve of small blocks by trying everything. Of a larger block's curve ar
 its length and what all of it earns, which no search is needed for; of its best list that it is in time, saves what is stated
 and what the curve says, and slows no gate that gains nothing.
 At the end mistakes are put into the lines of some larger blocks, given an answer or refused with 11, and into those of some
-blocks with wire delays the lines that mistaken delays would give; each must be noticed.
+blocks with wire delays or with measured activities the lines that mistaken delays or activities would give (mistakes.py); each
+must be noticed.
 """
 
 import itertools
 import sys
-from collections import Counter
-from copy import copy
-from functools import lru_cache
+from collections import Counter, defaultdict
+from functools import lru_cache, partial
 from pathlib import Path
 from random import Random
+
+from editions import MOST_ACTIVITY, MOST_SWITCHING, WIRE_LENGTH, activity, is_measured
+from mistakes import ACTIVITY_MISTAKES, wrong_activities, wrong_answers, wrong_delays, wrong_lines, wrong_places
 
 MOST_LISTS = 2_000
 MOST_WIRES = 8
 ORDERS = 3
 BLOCKS_MISTAKEN = 10
-WIRES_MISTAKEN = 4
+BLOCKS_APART = 5
 MOST_PAIRS = 512
-LARGEST_GAIN = 63 * 32_768 * 1_000
 ALWAYS = ["case", "slacks", "curve", "best", "judge"]
 WITH_SLACKS = ["more", "beyond", "largest"]
-# the length of a wire's body in each edition
-WIRE_LENGTH = {1: 2, 2: 4}
 
 
 class Refused(Exception):
@@ -40,11 +40,6 @@ class Wrong(Exception):
 
 def number(data, at):
     return 256 * data[at] + data[at + 1]
-
-
-def slacks_between(lasts, arrival, required):
-    """Required time minus source delay, for each gate."""
-    return [latest - (arrival + longest) for longest, latest in zip(lasts, required)]
 
 
 def take_field(data, at, tag, lengths):
@@ -65,10 +60,12 @@ class Block:
     def __init__(self, data):
         head = take_field(data, 0, 1, {8})
         self.edition, self.n = head[0], head[1]
-        self.arrival, self.deadline, self.p = number(head, 2), number(head, 4), number(head, 6)
-        if self.edition not in WIRE_LENGTH or not 1 <= self.n <= 64 or self.p > 256:
+        # the number that the file gives for the switching of a net: the probability of a 1 in 256ths up to edition 2, its
+        # measured activity from edition 3 on
+        self.arrival, self.deadline, self.switching = number(head, 2), number(head, 4), number(head, 6)
+        if self.edition not in MOST_SWITCHING or not 1 <= self.n <= 64 or self.switching > MOST_SWITCHING[self.edition]:
             raise Refused(4, 0)
-        self.delay, self.gate_p, self.steps, self.wires, self.wire_delay = [], [], [], [], {}
+        self.delay, self.gate_switching, self.steps, self.wires, self.wire_delay = [], [], [], [], {}
         at = 11
         for _ in range(self.n):
             at = self.read_gate(data, at)
@@ -78,20 +75,20 @@ class Block:
         self.out = [[b for a, b in self.wires if a == g] for g in range(self.n)]
         self.check_network()
         self.order = self.sorted_gates()
-        self.activity = [sum(2 * self.gate_p[a] * (256 - self.gate_p[a]) for a in into) for into in self.into]
-        self.activity[0] = 2 * self.p * (256 - self.p)
+        by_edition = partial(activity, self.edition)
+        self.activity = self.input_activities(by_edition, by_edition)
 
     def read_gate(self, data, at):
         body = take_field(data, at, 2, set(range(4, 37, 4)))
         steps = [(number(body, i), number(body, i + 2)) for i in range(4, len(body), 4)]
-        ranges = number(body, 0) < 4096 and number(body, 2) <= 256
+        ranges = number(body, 0) < 4096 and number(body, 2) <= MOST_SWITCHING[self.edition]
         if not ranges or not all(1 <= w <= 4095 and 1 <= d <= 1000 for w, d in steps):
             raise Refused(4, at)
         drops = [d for _, d in steps]
         if drops != sorted(set(drops), reverse=True):
             raise Refused(5, at)
         self.delay.append(number(body, 0))
-        self.gate_p.append(number(body, 2))
+        self.gate_switching.append(number(body, 2))
         self.steps.append(steps)
         return at + 3 + len(body)
 
@@ -107,6 +104,11 @@ class Block:
         self.wires.append((a, b))
         self.wire_delay[a, b] = delay
         return at + 3 + len(body)
+
+    def input_activities(self, of_input, of_output):
+        """The input activity of each gate, where these functions give the activities of the nets by the file's numbers."""
+        outputs = [of_output(switching) for switching in self.gate_switching]
+        return [of_input(self.switching)] + [sum(outputs[a] for a in into) for into in self.into[1:]]
 
     def check_network(self):
         for g in range(self.n):
@@ -155,7 +157,12 @@ class Block:
         return time
 
     def slacks(self):
-        return slacks_between(self.lasts([0] * self.n), self.arrival, self.required())
+        return self.slacks_between(self, self)
+
+    def slacks_between(self, before, behind):
+        """Required time minus source delay, for each gate: as one block has it before a gate, and another behind it."""
+        lasts, required = before.lasts([0] * self.n), behind.required()
+        return [latest - (self.arrival + longest) for longest, latest in zip(lasts, required)]
 
     def widths(self, g):
         return sum(w for w, _ in self.steps[g])
@@ -231,8 +238,8 @@ class Block:
         return self.deadline - self.arrival - self.longest([0] * self.n)
 
     def says(self):
-        """All that the file says but the edition."""
-        return repr((self.arrival, self.deadline, self.p, self.delay, self.gate_p, self.steps, self.wires, self.wire_delay))
+        """All that the answers depend on."""
+        return repr((self.arrival, self.deadline, self.activity, self.delay, self.steps, self.wires, self.wire_delay))
 
     def __eq__(self, other):
         return self.says() == other.says()
@@ -396,7 +403,8 @@ class Case:
         self.hold(start == block.longest([0] * block.n), "curve", "start")
         self.hold(len(widths) == len(gains) == count <= MOST_PAIRS, "curve", "count of pairs")
         self.hold(all(width >= 1 for width in widths), "curve", "widths of at least 1")
-        between = [LARGEST_GAIN + 1] + gains + [0]
+        largest_gain = 63 * MOST_ACTIVITY[block.edition] * 1_000
+        between = [largest_gain + 1] + gains + [0]
         self.hold(between == sorted(set(between), reverse=True), "curve", "gains that fall strictly and stay above 0")
         self.hold(start + sum(widths) == block.longest(block.earning()), "curve", "ends where every tick that earns is in time")
         whole = at_start + sum(width * gain for width, gain in zip(widths, gains))
@@ -415,16 +423,26 @@ class Case:
     def got_11(self):
         return all(self.lines[name].startswith("refused 11 ") for name in ("curve", "best"))
 
-    def has_delays(self):
-        """Whether curve and best list are given to a block with wire delays."""
-        return any(self.block.wire_delay.values()) and "refused" not in self.lines["curve"] + self.lines["best"]
+    def is_given(self):
+        """Whether curve and best list are given."""
+        return "refused" not in self.lines["curve"] + self.lines["best"]
 
     def has_to_choose(self):
         """Whether curve and best list are given, and spare lies within a curve of two pairs or more."""
-        if "refused" in self.lines["curve"] + self.lines["best"]:
+        if not self.is_given():
             return False
         widths = self.numbers("curve", 3)[3::2]
         return len(widths) > 1 and 0 < self.block.spare() < sum(widths)
+
+    def kinds(self, small):
+        """The kinds of cases that it is one of, for the mistakes; small are those that were found by trying everything."""
+        if not small and self.got_11():
+            return ["11"]
+        if not (self.is_given() if small else self.has_to_choose()):
+            return []
+        size = "small" if small else "large"
+        has_delays, measured = any(self.block.wire_delay.values()), is_measured(self.block.edition)
+        return [size] + has_delays * [size + ", delayed"] + measured * [size + ", measured"]
 
     def check_judging(self):
         increases = [0] * self.block.n
@@ -463,86 +481,6 @@ class Case:
         return ["%s %s" % line for line in lines.items()]
 
 
-def wrong_numbers(words):
-    """The words of a line, each time with one number more by 1."""
-    for i, word in enumerate(words):
-        if word.isdigit():
-            yield words[:i] + [str(int(word) + 1)] + words[i + 1 :]
-
-
-def wrong_curves(start, at_start, count, *pairs):
-    """A curve of two pairs or more, each time with one mistake that few checks notice."""
-    w, g, *middle, x, y = pairs
-    # begun a tick late; a pair in two; an empty pair; a pair that earns nothing
-    if w > 1:
-        yield start + 1, at_start + g, count, w - 1, *pairs[1:]
-        yield start, at_start, count + 1, 1, g, w - 1, *pairs[1:]
-    yield start, at_start, count + 1, 0, g + 1, *pairs
-    yield start, at_start, count + 1, *pairs, 1, 0
-    # what the last pair earns: earned by the first, for twice as long, or at start; no pair
-    yield start, at_start, count, w, g + x, *middle, x, y - w
-    if y % 2 == 0:
-        yield start, at_start, count, w, g, *middle, 2 * x, y // 2
-    yield start, at_start + x * y, count - 1, w, g, *middle
-    yield start, at_start, 0
-
-
-def wrong_lines(lines):
-    """The lines of a case, each time with one mistake."""
-    for at, line in enumerate(lines):
-        words = line.split(" ")
-        for wrong in wrong_numbers(words):
-            yield lines[:at] + [" ".join(wrong)] + lines[at + 1 :]
-        yield lines[:at] + [line.replace("kept", "changed") if "kept" in line else line + " "] + lines[at + 1 :]
-        yield lines[:at] + lines[at + 1 :]
-        yield lines[: at + 1] + lines[at:]
-
-
-def wrong_answers(lines):
-    """The lines of a case that has to choose, each time with one mistake in the curve or the best list."""
-    curve, best = lines[2].split(" ")[1:-1], lines[3].split(" ")[1:-1]
-    for wrong in (*wrong_curves(*map(int, curve)), ("refused", 11, 1)):
-        yield lines[:2] + ["curve %s kept" % " ".join(map(str, wrong))] + lines[3:]
-    for wrong in (best[:-1], best + ["0"], ["refused", "12", "0"]):
-        yield lines[:3] + ["best %s kept" % " ".join(wrong)] + lines[4:]
-
-
-def wrong_places(lines):
-    """The lines of a case that got 11, each time with one place 0."""
-    yield lines[:2] + ["curve refused 11 0 kept"] + lines[3:]
-    yield lines[:3] + ["best refused 11 0 kept"] + lines[4:]
-
-
-def mistaken_delays(block):
-    """The block, each time with a mistake in the delays of all wires, or of one: left out, counted twice, one of the two bytes
-    read, the bytes exchanged."""
-    delayed = [wire for wire in block.wires if block.wire_delay[wire]]
-    for wires in [delayed] + [[wire] for wire in delayed[:WIRES_MISTAKEN]]:
-        for wrong in (lambda d: 0, lambda d: 2 * d, lambda d: d % 256, lambda d: d // 256, lambda d: d % 256 * 256 + d // 256):
-            other = copy(block)
-            other.wire_delay = {**block.wire_delay, **{wire: wrong(block.wire_delay[wire]) for wire in wires}}
-            yield other
-
-
-def wrong_slacks(block, other):
-    """The slacks with the delays of another block only on the way to a gate, and only on the way behind it."""
-    none = [0] * block.n
-    yield slacks_between(other.lasts(none), block.arrival, block.required())
-    yield slacks_between(block.lasts(none), block.arrival, other.required())
-
-
-def wrong_delays(count, record, lines):
-    """The lines of a case, each time with all of them, or one of them, as mistaken wire delays would give them, where that
-    makes a difference."""
-    case = Case(count, record, lines)
-    for other in mistaken_delays(case.block):
-        wrong = case.lines_with(other)
-        each = [lines[:at] + [wrong[at]] + lines[at + 1 :] for at in range(len(lines))]
-        for slacks in wrong_slacks(case.block, other):
-            each.append(lines[:1] + ["slacks %s kept" % " ".join(map(str, slacks))] + lines[2:])
-        yield from (some for some in [wrong] + each if some != lines)
-
-
 def mistakes_noticed(stored, mistakes):
     """How many mistakes were put into a case. Each must be noticed."""
     count, record, lines = stored
@@ -572,38 +510,55 @@ def stored_cases(data, text):
         raise Wrong("%d records are answered of %d bytes, and %d answers given" % (count, len(data), len(starts) - 1))
 
 
-def put_mistakes(choosing, elevens, delayed):
-    """Puts mistakes into the last cases of each kind; returns how many were noticed, and how many of wire delays."""
-    kinds = [cases[-BLOCKS_MISTAKEN:] for cases in (choosing, elevens, delayed)]
-    if min(map(len, kinds)) < BLOCKS_MISTAKEN:
-        raise Wrong("there are too few blocks to put mistakes into")
-    choosing, elevens, delayed = kinds
+def put_into_lines(last):
+    """Puts mistakes into the lines of larger blocks; returns how many were noticed."""
+    choosing, elevens = last("large"), last("11")
     noticed = sum(mistakes_noticed(stored, wrong_lines(stored[2])) for stored in choosing + elevens)
     noticed += sum(mistakes_noticed(stored, wrong_answers(stored[2])) for stored in choosing)
-    noticed += sum(mistakes_noticed(stored, wrong_places(stored[2])) for stored in elevens)
-    of_delays = [mistakes_noticed(stored, wrong_delays(*stored)) for stored in delayed + choosing]
-    if not all(of_delays):
+    return noticed + sum(mistakes_noticed(stored, wrong_places(stored[2])) for stored in elevens)
+
+
+def put_into_delays(last):
+    """The same with mistaken wire delays; each block has some that change its lines."""
+    delayed = last("small, delayed") + last("large, delayed")
+    noticed = [mistakes_noticed(stored, wrong_delays(Case(*stored), stored[2])) for stored in delayed]
+    if not all(noticed):
         raise Wrong("no mistake of a wire's delay changes the lines of a block")
-    return noticed, sum(of_delays)
+    return sum(noticed)
+
+
+def put_into_activities(last):
+    """The same with mistaken activities; each kind of mistake changes the lines of some blocks, smaller and larger ones."""
+    total = 0
+    for size in ("small", "large"):
+        for name, mistaken in ACTIVITY_MISTAKES.items():
+            measured = last(size + ", measured")
+            noticed = [mistakes_noticed(stored, wrong_activities(Case(*stored), stored[2], mistaken)) for stored in measured]
+            if not any(noticed):
+                raise Wrong("activities mistaken by %s change the lines of no %s block" % (name, size))
+            total += sum(noticed)
+    return total
 
 
 def check_all(data, text):
-    """Holds every record to the lines printed for it; then puts mistakes into the last of the larger ones that have to choose,
-    of the larger ones that got 11, and of the smaller ones with wire delays."""
+    """Holds every record to the lines printed for it; then puts mistakes into some of the last cases of each kind."""
     count = tried = 0
-    choosing, elevens, delayed = [], [], []
+    kinds = defaultdict(list)
     for stored in stored_cases(data, text):
         case = Case(*stored)
+        small = case.check()
         count += 1
-        if case.check():
-            tried += 1
-            delayed += [stored] if case.has_delays() else []
-        elif case.got_11():
-            elevens.append(stored)
-        elif case.has_to_choose():
-            choosing.append(stored)
-    said = "%d cases, %d of them by trying every list; %d mistakes put in were noticed, and %d of wire delays"
-    return said % (count, tried, *put_mistakes(choosing, elevens, delayed))
+        tried += small
+        for kind in case.kinds(small):
+            kinds[kind].append(stored)
+
+    def last(kind):
+        if len(kinds[kind]) < BLOCKS_MISTAKEN * BLOCKS_APART:
+            raise Wrong("there are too few blocks to put mistakes into: %s" % kind)
+        return kinds[kind][-BLOCKS_MISTAKEN * BLOCKS_APART :: BLOCKS_APART]
+
+    said = "%d cases, %d of them by trying every list; %d mistakes put in were noticed, and %d of wire delays, %d of activities"
+    return said % (count, tried, put_into_lines(last), put_into_delays(last), put_into_activities(last))
 
 
 def main():

@@ -1,10 +1,10 @@
-//! The block file (document 01, "The block file"; document 02, K2): its numbers, reading with refusals 1 to 7, writing.
+//! The block file (document 01, "The block file"; document 02, K2 and K3): its numbers, reading with refusals 1 to 7, writing.
 
-pub const MAX_EDITION: u8 = 2;
+use crate::edition::{activity, has_wire_delays, max_switching, wire_length, MAX_EDITION};
+
 pub const MAX_GATES: usize = 64;
 pub const MAX_WIRES: usize = 256;
 pub const MAX_STEPS: usize = 8;
-pub const MAX_PROBABILITY: u32 = 256;
 pub const MAX_DELAY: u32 = 4_095;
 pub const MAX_WIRE_DELAY: u32 = 4_095;
 pub const MAX_WIDTH: u32 = 4_095;
@@ -18,11 +18,13 @@ pub struct Step {
     pub drop: u32,
 }
 
-/// A gate field: drawn delay, probability p of the output in 256ths, steps.
+/// A gate field: drawn delay, what the file says of its output, steps.
 #[derive(Clone, Debug, PartialEq, Eq)]
 pub struct Gate {
     pub delay: u32,
-    pub p: u32,
+    /// The number that the file gives for the switching of a net: the probability of a 1 in 256ths up to edition 2, its
+    /// measured activity from edition 3 on.
+    pub switching: u32,
     pub steps: Vec<Step>,
 }
 
@@ -57,13 +59,13 @@ pub fn stands_in(wires: &[Wire], wire: &Wire) -> bool {
     wires.iter().any(|w| w.ends() == wire.ends())
 }
 
-/// All that a block file says. `p` is the input's probability.
+/// All that a block file says. `switching` is the input's.
 #[derive(Clone, Debug, PartialEq, Eq)]
 pub struct Block {
     pub edition: u8,
     pub arrival: u32,
     pub deadline: u32,
-    pub p: u32,
+    pub switching: u32,
     pub gates: Vec<Gate>,
     pub wires: Vec<Wire>,
 }
@@ -72,6 +74,16 @@ impl Block {
     /// Whether some wire has a delay above 0.
     pub fn is_delayed(&self) -> bool {
         self.wires.iter().any(|w| w.delay > 0)
+    }
+
+    /// The activity of the input.
+    pub fn input_activity(&self) -> u32 {
+        activity(self.edition, self.switching)
+    }
+
+    /// The activity of a gate's output.
+    pub fn output_activity(&self, gate: usize) -> u32 {
+        activity(self.edition, self.gates[gate].switching)
     }
 }
 
@@ -88,20 +100,6 @@ pub fn refuse<T>(number: u32, place: usize) -> Result<T, Refusal> {
 
 fn two_bytes(bytes: &[u8], at: usize) -> u32 {
     u32::from(bytes[at]) * 256 + u32::from(bytes[at + 1])
-}
-
-/// Whether an edition's wires have a delay.
-fn has_wire_delays(edition: u8) -> bool {
-    edition >= 2
-}
-
-/// The length of a wire's body: two gates and, where the edition has one, the delay.
-pub fn wire_length(edition: u8) -> usize {
-    if has_wire_delays(edition) {
-        4
-    } else {
-        2
-    }
 }
 
 /// The delay in a wire's body of that length.
@@ -135,25 +133,26 @@ fn body(file: &[u8], offset: usize, tag: u8, length_fits: impl Fn(usize) -> bool
 fn read_block_field(file: &[u8]) -> Result<(Block, usize), Refusal> {
     let body = body(file, 0, 1, |length| length == 8)?;
     let (edition, count) = (body[0], usize::from(body[1]));
-    let (arrival, deadline, p) = (two_bytes(body, 2), two_bytes(body, 4), two_bytes(body, 6));
-    let in_range = (1..=MAX_EDITION).contains(&edition) && (1..=MAX_GATES).contains(&count) && p <= MAX_PROBABILITY;
-    if !in_range {
+    let (arrival, deadline, switching) = (two_bytes(body, 2), two_bytes(body, 4), two_bytes(body, 6));
+    let in_range = (1..=MAX_EDITION).contains(&edition) && (1..=MAX_GATES).contains(&count);
+    if !in_range || switching > max_switching(edition) {
         return refuse(4, 0);
     }
-    Ok((Block { edition, arrival, deadline, p, gates: Vec::new(), wires: Vec::new() }, count))
+    Ok((Block { edition, arrival, deadline, switching, gates: Vec::new(), wires: Vec::new() }, count))
 }
 
-/// A gate field, and the offset behind it.
-fn read_gate(file: &[u8], offset: usize) -> Result<(Gate, usize), Refusal> {
+/// A gate field of a file of that edition, and the offset behind it.
+fn read_gate(file: &[u8], offset: usize, edition: u8) -> Result<(Gate, usize), Refusal> {
     let fits = |length: usize| (0..=MAX_STEPS).any(|k| length == 4 + 4 * k);
     let body = body(file, offset, 2, fits)?;
     let mut steps = Vec::new();
     for step in body[4..].chunks(4) {
         steps.push(Step { width: two_bytes(step, 0), drop: two_bytes(step, 2) });
     }
-    let gate = Gate { delay: two_bytes(body, 0), p: two_bytes(body, 2), steps };
+    let gate = Gate { delay: two_bytes(body, 0), switching: two_bytes(body, 2), steps };
     let step_in_range = |s: &Step| (1..=MAX_WIDTH).contains(&s.width) && (1..=MAX_DROP).contains(&s.drop);
-    if gate.delay > MAX_DELAY || gate.p > MAX_PROBABILITY || !gate.steps.iter().all(step_in_range) {
+    let in_range = gate.delay <= MAX_DELAY && gate.switching <= max_switching(edition);
+    if !in_range || !gate.steps.iter().all(step_in_range) {
         return refuse(4, offset);
     }
     if gate.steps.windows(2).any(|pair| pair[0].drop <= pair[1].drop) {
@@ -184,7 +183,7 @@ pub fn decode(file: &[u8]) -> Result<Block, Refusal> {
     let (mut block, count) = read_block_field(file)?;
     let mut offset = 11;
     for _ in 0..count {
-        let (gate, behind) = read_gate(file, offset)?;
+        let (gate, behind) = read_gate(file, offset, block.edition)?;
         block.gates.push(gate);
         offset = behind;
     }
@@ -225,11 +224,11 @@ pub fn encode(block: &Block) -> Vec<u8> {
     file.push(u8::try_from(block.gates.len()).expect("a gate count of one byte"));
     put_two_bytes(&mut file, block.arrival);
     put_two_bytes(&mut file, block.deadline);
-    put_two_bytes(&mut file, block.p);
+    put_two_bytes(&mut file, block.switching);
     for gate in &block.gates {
         put_header(&mut file, 2, 4 + 4 * gate.steps.len());
         put_two_bytes(&mut file, gate.delay);
-        put_two_bytes(&mut file, gate.p);
+        put_two_bytes(&mut file, gate.switching);
         for step in &gate.steps {
             put_two_bytes(&mut file, step.width);
             put_two_bytes(&mut file, step.drop);

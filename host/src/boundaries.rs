@@ -2,9 +2,10 @@
 //! increases, by hand.
 
 pub mod edition_2;
+pub mod edition_3;
 
 use crate::block::{encode, Block, Gate, Step, Wire};
-use crate::generate::{largest_gain, most_pairs, most_wires};
+use crate::generate::limits::{largest_gain, most_pairs, most_wires};
 use crate::worked::{diamond, paper_chain};
 
 /// A file, and the number and place of its refusal, or `None` where the best increases are given.
@@ -50,12 +51,12 @@ fn and(mut file: Vec<u8>, bytes: &[u8]) -> Vec<u8> {
 
 fn gate(steps: &[(u32, u32)]) -> Gate {
     let steps = steps.iter().map(|&(width, drop)| Step { width, drop }).collect();
-    Gate { delay: 1, p: 128, steps }
+    Gate { delay: 1, switching: 128, steps }
 }
 
 fn block(gates: Vec<Gate>, wires: &[(usize, usize)]) -> Block {
     let wires = wires.iter().map(|&(from, to)| Wire::without_delay(from, to)).collect();
-    Block { edition: 1, arrival: 0, deadline: 100, p: 128, gates, wires }
+    Block { edition: 1, arrival: 0, deadline: 100, switching: 128, gates, wires }
 }
 
 /// Plain gates, and these wires.
@@ -138,7 +139,7 @@ fn tags_and_lengths() -> Vec<Boundary> {
 }
 
 fn ranges() -> Vec<Boundary> {
-    let p = |p| lone(Gate { p, ..gate(&[]) });
+    let p = |p| lone(Gate { switching: p, ..gate(&[]) });
     let delay = |delay| encode(&Block { deadline: 65_535, ..block(vec![Gate { delay, ..gate(&[]) }], &[]) });
     vec![
         refused("edition 0", with(3, &[0]), 4, 0),
@@ -298,5 +299,6 @@ pub fn edition_1() -> Vec<Boundary> {
 pub fn all() -> Vec<Boundary> {
     let mut all = edition_1();
     all.extend(edition_2::all());
+    all.extend(edition_3::all());
     all
 }

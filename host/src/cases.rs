@@ -1,11 +1,11 @@
 //! The stored blocks of the program `cases`, and what it must print for them. host/CASES.md describes both.
 
+mod groups;
+
 use crate::answers::{self, MAX_PAIRS};
 use crate::block::{decode, encode, Block, Refusal, MAX_GATES};
-use crate::generate::{self, any_block, bridged_block, has_ties, with_wire_delays};
-use crate::generate::{Values, WireDelays, Wires, ALL_VALUES};
-use crate::random::Random;
-use crate::{boundaries, damage, exact, parts, search, timing, worked};
+use crate::{parts, search};
+pub use groups::all;
 use std::fmt::{Display, Write};
 
 /// Blocks of more lists or wires are not held to the exhaustive search; 21 wires are the most that a series-parallel block
@@ -22,7 +22,7 @@ pub struct Case {
     pub lent_gains: usize,
     pub gate: usize,
     pub beyond: u32,
-    /// The number of the case that says the same in edition 1.
+    /// The number of the case that says the same in an earlier edition.
     pub twin_of: Option<usize>,
 }
 
@@ -44,10 +44,12 @@ impl Case {
         Case { file, lent, lent_widths, lent_gains, gate, beyond, twin_of: None }
     }
 
-    /// The same in edition 2 with wire delays 0, where the file can be read.
-    fn twin(&self, number: usize) -> Option<Case> {
-        let block = decode(&self.file).ok()?;
-        Some(Case { file: encode(&Block { edition: 2, ..block }), twin_of: Some(number), ..self.clone() })
+    /// The same in a later edition, where the file can be read and is of none as late.
+    fn twin(&self, number: usize, edition: u8, restated: fn(Block) -> Block) -> Option<Case> {
+        let block = decode(&self.file).ok().filter(|block| block.edition < edition)?;
+        let twin = restated(block);
+        assert_eq!(twin.edition, edition);
+        Some(Case { file: encode(&twin), twin_of: Some(number), ..self.clone() })
     }
 
     /// The record that the program reads.
@@ -117,141 +119,8 @@ fn line(text: &mut String, name: &str, answer: Result<String, &Refusal>, lends: 
     writeln!(text, "{name} {words}{kept}").unwrap();
 }
 
-/// Slices of just enough elements and of one too few, for blocks that are in time, late, and not series-parallel.
-fn short_slices() -> Vec<Case> {
-    let bridge = boundaries::all().into_iter().find(|b| b.name == "the bridge, late").expect("a boundary").file;
-    let mut cases = Vec::new();
-    for file in [encode(&worked::diamond(10)), encode(&worked::diamond(6)), bridge] {
-        for (lent, lent_widths, lent_gains) in
-            [(4, 512, 512), (3, 511, 512), (3, 512, 511), (0, 0, 0), (4, 511, 511), (68, 520, 511), (3, 512, 512)]
-        {
-            cases.push(Case { lent, lent_widths, lent_gains, ..Case::of(file.clone(), 1) });
-        }
-    }
-    cases.push(Case { lent: 0, ..Case::of(Vec::new(), 0) });
-    cases
-}
-
-/// A file cut at every byte, and with every byte changed.
-fn damaged(file: Vec<u8>) -> Vec<Case> {
-    let files = damage::every_cut(&file).into_iter().chain(damage::every_byte_changed(&file));
-    files.enumerate().map(|(i, file)| Case::of(file, i)).collect()
-}
-
-fn small_blocks(random: &mut Random) -> Vec<Case> {
-    (0..150).map(|i| Case::of(encode(&any_block(random, 7)), i)).collect()
-}
-
-fn large_block(random: &mut Random, round: usize) -> Block {
-    let kind = match round % 10 {
-        0 => Wires::Nearly,
-        1 => Wires::General,
-        2 if round % 20 == 2 => Wires::Faulty,
-        _ => Wires::SeriesParallel,
-    };
-    let values = ALL_VALUES[round % 5];
-    let gates = if round % 3 == 0 { 64 } else { 12 + random.below(53) };
-    let most_steps = random.pick(&[1, 2, 4, 8]);
-    generate::block(random, kind, values, gates, most_steps)
-}
-
-/// Whether a block in time has spare ticks, and fewer than could earn something.
-fn has_to_choose(block: &Block) -> bool {
-    let earning: u64 = exact::curve(block).pairs.iter().map(|pair| pair.0).sum();
-    (1..earning as i64).contains(&timing::spare(block))
-}
-
-/// A series-parallel block of 8 to 12 gates, no chain, with just so many lists that all of them can be tried; in edition 2
-/// if its wires have delays.
-fn searched_block(random: &mut Random, round: usize, delays: Option<WireDelays>) -> Block {
-    let kind = if round % 4 == 0 { Wires::Wide } else { Wires::SeriesParallel };
-    let values = [Values::Small, Values::Equal, Values::Exhausted][round % 3];
-    loop {
-        let mut block = generate::block(random, kind, values, 8 + round % 5, 2);
-        let lists = search::count_of_lists(&block);
-        let many = lists >= MOST_LISTS / 4 && lists <= MOST_LISTS && timing::all_paths(&block).len() > 2;
-        if !many {
-            continue;
-        }
-        if let Some(delays) = delays {
-            block = with_wire_delays(random, block, delays);
-        }
-        if has_to_choose(&block) && (values != Values::Equal || has_ties(&block)) {
-            return block;
-        }
-    }
-}
-
-/// The cases of edition 1.
-fn edition_1() -> Vec<Case> {
-    let random = &mut Random::from_seed(2_023);
-    let searched = &mut Random::from_seed(8_012);
-    let bridged = &mut Random::from_seed(464);
-    let mut cases: Vec<Case> = Vec::new();
-    cases.extend(worked::edition_1().into_iter().enumerate().map(|(i, w)| Case::of(w.file, i)));
-    cases.extend(boundaries::edition_1().into_iter().enumerate().map(|(i, b)| Case::of(b.file, i)));
-    cases.extend(short_slices());
-    cases.extend(damaged(encode(&worked::diamond(10))));
-    cases.extend(small_blocks(random));
-    cases.extend((0..300).map(|round| Case::of(encode(&large_block(random, round)), round)));
-    cases.extend((0..40).map(|round| Case::of(encode(&searched_block(searched, round, None)), round)));
-    cases.extend((0..40).map(|round| Case::of(encode(&bridged_block(bridged, 64)), round)));
-    cases
-}
-
-/// A small block of any kind, whose lists can all be tried.
-fn small_block(random: &mut Random) -> Block {
-    loop {
-        let block = any_block(random, 7);
-        if search::count_of_lists(&block) <= MOST_LISTS {
-            return block;
-        }
-    }
-}
-
-/// One kind of wire delays after another.
-fn wire_delays(round: usize) -> WireDelays {
-    [WireDelays::Small, WireDelays::Middle, WireDelays::Any, WireDelays::Huge][round % 4]
-}
-
-/// The cases of edition 2 that are not also cases of edition 1.
-fn edition_2() -> Vec<Case> {
-    let random = &mut Random::from_seed(2_024);
-    let searched = &mut Random::from_seed(8_013);
-    let mut cases: Vec<Case> = Vec::new();
-    cases.extend(worked::edition_2().into_iter().enumerate().map(|(i, w)| Case::of(w.file, i)));
-    cases.extend(boundaries::edition_2::all().into_iter().enumerate().map(|(i, b)| Case::of(b.file, i)));
-    cases.extend(damaged(encode(&worked::delayed_diamond([1, 0, 0, 2]))));
-    let mut add = |block: &Block, round: usize| cases.push(Case::of(encode(block), round));
-    for round in 0..100 {
-        let block = small_block(random);
-        add(&with_wire_delays(random, block, wire_delays(round)), round);
-    }
-    for round in 0..40 {
-        add(&searched_block(searched, round, Some(wire_delays(round / 4))), round);
-    }
-    for round in 0..100 {
-        let block = large_block(random, round);
-        add(&with_wire_delays(random, block, wire_delays(round / 10)), round);
-    }
-    for round in 0..20 {
-        let block = bridged_block(random, 64);
-        add(&with_wire_delays(random, block, wire_delays(round)), round);
-    }
-    cases
-}
-
-/// Every stored case, in order.
-pub fn all() -> Vec<Case> {
-    let mut cases = edition_1();
-    let twins: Vec<Case> = cases.iter().enumerate().filter_map(|(number, case)| case.twin(number)).collect();
-    cases.extend(twins);
-    cases.extend(edition_2());
-    cases
-}
-
-/// What the program reads, and what it must print. A case of edition 2 that says the same as one of edition 1 is answered
-/// as that one.
+/// What the program reads, and what it must print. A case that says the same as one of an earlier edition is answered as that
+/// one.
 pub fn written(cases: &[Case]) -> (Vec<u8>, String) {
     let mut input = Vec::new();
     let mut output = String::new();

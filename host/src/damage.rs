@@ -1,6 +1,6 @@
 //! Damaged block files.
 
-use crate::block::wire_length;
+use crate::edition::wire_length;
 use crate::random::Random;
 
 /// The file cut short at every length.
@@ -47,7 +47,7 @@ pub fn damaged(random: &mut Random, file: &[u8]) -> Vec<u8> {
         }
         5 => file = last_wire_twice(file),
         6 => {
-            // in edition 2 the same wire with another delay
+            // from edition 2 on the same wire with another delay
             file = last_wire_twice(file);
             *file.last_mut().expect("a byte") ^= 1;
         }

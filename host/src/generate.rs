@@ -1,9 +1,13 @@
 //! Random blocks: networks of every kind, and values that press on one rule each.
 
+pub mod editions;
+pub mod limits;
+
 use crate::block::{encode, stands_in, Block, Gate, Step, Wire};
-use crate::block::{MAX_DELAY, MAX_DROP, MAX_GATES, MAX_STEPS, MAX_TIME, MAX_WIDTH, MAX_WIRES, MAX_WIRE_DELAY};
+use crate::block::{MAX_DELAY, MAX_DROP, MAX_GATES, MAX_TIME, MAX_WIDTH, MAX_WIRES};
 use crate::random::Random;
 use crate::{exact, merging, network, timing};
+use editions::{delay_wires, in_any_edition, set_activities};
 use std::iter::repeat_with;
 
 /// What the numbers of a block are like.
@@ -38,23 +42,6 @@ pub enum Wires {
     /// Loops, or faults at the ends.
     Faulty,
 }
-
-/// What the delays of a block's wires are like (document 02, K2).
-#[derive(Clone, Copy, Debug, PartialEq)]
-pub enum WireDelays {
-    Zero,
-    /// A few ticks, so that branches are often equally long.
-    Small,
-    /// About as long as gates take.
-    Middle,
-    /// From none to the limit.
-    Any,
-    /// None, or at the limit.
-    Huge,
-}
-
-pub const ALL_WIRE_DELAYS: [WireDelays; 5] =
-    [WireDelays::Zero, WireDelays::Small, WireDelays::Middle, WireDelays::Any, WireDelays::Huge];
 
 /// Gives the gates between the first and the last random numbers, and the wires a random order.
 pub fn shuffled(random: &mut Random, gates: usize, wires: Vec<(usize, usize)>) -> Vec<Wire> {
@@ -192,8 +179,8 @@ pub fn wires(random: &mut Random, kind: Wires, gates: usize) -> Vec<Wire> {
 
 /// A block of gates without delay and steps, in edition 1.
 pub fn bare_block(gates: usize, wires: Vec<Wire>) -> Block {
-    let gate = Gate { delay: 0, p: 128, steps: Vec::new() };
-    Block { edition: 1, arrival: 0, deadline: 0, p: 128, gates: vec![gate; gates], wires }
+    let gate = Gate { delay: 0, switching: 128, steps: Vec::new() };
+    Block { edition: 1, arrival: 0, deadline: 0, switching: 128, gates: vec![gate; gates], wires }
 }
 
 /// So many steps: widths up to `widest`, drops up to `largest`, falling strictly.
@@ -209,21 +196,26 @@ fn steps(random: &mut Random, count: usize, widest: u32, largest: u32) -> Vec<St
     drops.iter().map(|&drop| Step { width: random.between(1, widest), drop }).collect()
 }
 
+/// A gate of edition 1.
 fn gate(random: &mut Random, values: Values, most_steps: usize) -> Gate {
     let count = random.below(most_steps + 1);
     let any_p = random.between(0, 256);
     match values {
         Values::Small => {
-            let p = random.pick(&[128, 128, 64, 192, 0, 256, 200]);
-            Gate { delay: random.between(0, 4), p, steps: steps(random, count.min(2), 3, 5) }
+            let switching = random.pick(&[128, 128, 64, 192, 0, 256, 200]);
+            Gate { delay: random.between(0, 4), switching, steps: steps(random, count.min(2), 3, 5) }
         }
         Values::Equal => Gate {
             delay: random.between(0, 6),
-            p: random.pick(&[128, 128, 128, 0]),
+            switching: random.pick(&[128, 128, 128, 0]),
             steps: steps(random, count.min(3), 6, 3),
         },
-        Values::Exhausted => Gate { delay: random.between(0, 90), p: any_p, steps: steps(random, count, 3, 20) },
-        Values::Plain => Gate { delay: random.between(0, 50), p: any_p, steps: steps(random, count, 20, MAX_DROP) },
+        Values::Exhausted => {
+            Gate { delay: random.between(0, 90), switching: any_p, steps: steps(random, count, 3, 20) }
+        }
+        Values::Plain => {
+            Gate { delay: random.between(0, 50), switching: any_p, steps: steps(random, count, 20, MAX_DROP) }
+        }
         Values::Huge => {
             let mut steps = steps(random, count, 1, MAX_DROP);
             for step in &mut steps {
@@ -232,7 +224,8 @@ fn gate(random: &mut Random, values: Values, most_steps: usize) -> Gate {
             if let Some(step) = steps.first_mut() {
                 step.drop = MAX_DROP;
             }
-            Gate { delay: random.pick(&[0, 0, 0, 0, 1, 7, MAX_DELAY]), p: random.pick(&[128, 127, 1, 256]), steps }
+            let delay = random.pick(&[0, 0, 0, 0, 1, 7, MAX_DELAY]);
+            Gate { delay, switching: random.pick(&[128, 127, 1, 256]), steps }
         }
     }
 }
@@ -268,43 +261,9 @@ pub fn block(random: &mut Random, kind: Wires, values: Values, gates: usize, mos
     for g in 0..gates {
         block.gates[g] = gate(random, values, most_steps);
     }
-    block.p = random.pick(&[128, 128, 77, 0, 256, 1]);
+    block.switching = random.pick(&[128, 128, 77, 0, 256, 1]);
     set_times(random, &mut block);
     block
-}
-
-fn wire_delay(random: &mut Random, delays: WireDelays) -> u32 {
-    match delays {
-        WireDelays::Zero => 0,
-        WireDelays::Small => random.between(0, 3),
-        WireDelays::Middle => random.between(0, 60),
-        WireDelays::Any => random.between(0, MAX_WIRE_DELAY),
-        WireDelays::Huge => random.pick(&[0, 0, 0, 1, MAX_WIRE_DELAY - 1, MAX_WIRE_DELAY]),
-    }
-}
-
-/// Puts the block into edition 2, each wire with the next of the delays.
-pub fn delay_wires(block: &mut Block, delays: impl IntoIterator<Item = u32>) {
-    block.edition = 2;
-    for (wire, delay) in block.wires.iter_mut().zip(delays) {
-        wire.delay = delay;
-    }
-}
-
-/// The block in edition 2 with such delays of its wires, arrival and deadline set anew.
-pub fn with_wire_delays(random: &mut Random, mut block: Block, delays: WireDelays) -> Block {
-    delay_wires(&mut block, repeat_with(|| wire_delay(random, delays)));
-    set_times(random, &mut block);
-    block
-}
-
-/// The block as it is, or in edition 2 with delays of any kind.
-pub fn in_either_edition(random: &mut Random, block: Block) -> Block {
-    if random.chance(1, 2) {
-        return block;
-    }
-    let delays = random.pick(&ALL_WIRE_DELAYS);
-    with_wire_delays(random, block, delays)
 }
 
 /// Sets a deadline that leaves about half of the room, as far as a deadline can.
@@ -314,12 +273,12 @@ fn halve_room(block: &mut Block) {
     block.deadline = ((start + end) / 2).min(u64::from(MAX_TIME)) as u32;
 }
 
-/// A block with every gate of exactly so many steps and about half of the room used: for measuring.
-pub fn measured_block(random: &mut Random, gates: usize, wires: Vec<Wire>, step_count: usize) -> Block {
+/// A block of edition 1 with every gate of exactly so many steps and about half of the room used: for the benchmark.
+pub fn benchmark_block(random: &mut Random, gates: usize, wires: Vec<Wire>, step_count: usize) -> Block {
     let mut block = bare_block(gates, wires);
     for gate in &mut block.gates {
         gate.delay = random.between(0, 50);
-        gate.p = random.between(16, 240);
+        gate.switching = random.between(16, 240);
         while gate.steps.len() < step_count {
             gate.steps = steps(random, step_count, 20, MAX_DROP);
         }
@@ -328,11 +287,17 @@ pub fn measured_block(random: &mut Random, gates: usize, wires: Vec<Wire>, step_
     block
 }
 
-/// A measured block in edition 2, with wire delays from 0 to `most`.
-pub fn measured_with_delays(random: &mut Random, mut measured: Block, most: u32) -> Block {
-    delay_wires(&mut measured, repeat_with(|| random.between(0, most)));
-    halve_room(&mut measured);
-    measured
+/// A benchmark block in edition 2, with wire delays from 0 to `most`.
+pub fn benchmark_with_delays(random: &mut Random, mut block: Block, most: u32) -> Block {
+    delay_wires(&mut block, repeat_with(|| random.between(0, most)));
+    halve_room(&mut block);
+    block
+}
+
+/// A benchmark block in edition 3, with activities from 0 to `most`.
+pub fn benchmark_with_activities(random: &mut Random, mut block: Block, most: u32) -> Block {
+    set_activities(&mut block, repeat_with(|| random.between(0, most)));
+    block
 }
 
 /// A block of any kind, in edition 1.
@@ -360,10 +325,10 @@ pub fn bridged_block(random: &mut Random, most_gates: usize) -> Block {
     block(random, Wires::Bridged, values, gates, most_steps)
 }
 
-/// A block of any kind in either edition, every eighth one with a bridge, so that 11 comes at many places.
+/// A block of any kind in any edition, every eighth one with a bridge, so that 11 comes at many places.
 pub fn compared_block(random: &mut Random, most_gates: usize) -> Block {
     let block = if random.chance(1, 8) { bridged_block(random, most_gates) } else { any_block(random, most_gates) };
-    in_either_edition(random, block)
+    in_any_edition(random, block)
 }
 
 /// Whether a list later in the order of ties saves as much as the best: list merging, which heeds no order, returns one.
@@ -372,56 +337,4 @@ pub fn has_ties(block: &Block) -> bool {
     let found = merging::best_increases(&encode(block), &mut merged);
     let best = exact::best(block).map(|b| b.increases);
     found.is_ok() && best.map_or(false, |b| b != merged[..b.len()])
-}
-
-/// 63 wires lead into the last gate, p 128 each, drop 1,000: the largest gain of a pair.
-pub fn largest_gain() -> Block {
-    let mut wires = vec![Wire::without_delay(0, 63)];
-    for gate in 1..63 {
-        wires.push(Wire::without_delay(0, gate));
-        wires.push(Wire::without_delay(gate, 63));
-    }
-    let mut block = bare_block(64, wires);
-    block.gates[63].steps = vec![Step { width: 2, drop: 1_000 }];
-    block.deadline = 1;
-    block
-}
-
-/// A chain of 64 gates with 8 steps each, all of different gains: the most pairs that a curve can have.
-pub fn most_pairs() -> Block {
-    let wires = (1..64).map(|gate| Wire::without_delay(gate - 1, gate)).collect();
-    let mut block = bare_block(64, wires);
-    for (g, gate) in block.gates.iter_mut().enumerate() {
-        gate.delay = 1;
-        gate.steps = (0..8).map(|i| Step { width: 1 + i, drop: MAX_DROP - 64 * i - g as u32 }).collect();
-    }
-    block.deadline = 1_000;
-    block
-}
-
-/// 64 gates, 256 wires, no loop, ends right; not series-parallel.
-pub fn most_wires() -> Block {
-    let mut wires = Vec::new();
-    for gap in 1..64 {
-        for from in 0..64 - gap {
-            if wires.len() < MAX_WIRES {
-                wires.push(Wire::without_delay(from, from + gap));
-            }
-        }
-    }
-    bare_block(64, wires)
-}
-
-/// The longest file: 64 gates of 8 steps and 256 wires, in edition 2. No two wires have the same delay. The wires between
-/// neighbours come last, so that a file cut short of them has gates without a wire in.
-pub fn largest_file() -> Vec<u8> {
-    let mut block = most_wires();
-    block.deadline = MAX_TIME;
-    block.wires.reverse();
-    for (g, gate) in block.gates.iter_mut().enumerate() {
-        gate.delay = MAX_DELAY - g as u32;
-        gate.steps = (0..MAX_STEPS as u32).map(|i| Step { width: MAX_WIDTH - i, drop: MAX_DROP - i }).collect();
-    }
-    delay_wires(&mut block, (0..).map(|i| MAX_WIRE_DELAY - 16 * i));
-    encode(&block)
 }

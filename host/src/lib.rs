@@ -1,5 +1,5 @@
-//! A second implementation of document 01 and of document 02's K1 and K2, written from their text: it says what the library
-//! under test should answer.
+//! A second implementation of document 01 and of document 02's K1, K2 and K3, written from their text: it says what the
+//! library under test should answer.
 
 pub mod answers;
 pub mod apart;
@@ -8,6 +8,7 @@ pub mod boundaries;
 pub mod cases;
 pub mod compare;
 pub mod damage;
+pub mod edition;
 pub mod exact;
 pub mod generate;
 pub mod merging;

@@ -58,7 +58,7 @@ pub fn wires(random: &mut Random, shape: Shape, gates: usize) -> Vec<Wire> {
 #[cfg(test)]
 mod tests {
     use super::*;
-    use crate::generate::measured_block;
+    use crate::generate::benchmark_block;
     use crate::{network, parts};
 
     #[test]
@@ -67,7 +67,7 @@ mod tests {
         for shape in ALL_SHAPES {
             for gates in [3, 4, 8, 64] {
                 let wires = wires(random, shape, gates);
-                let block = measured_block(random, gates, wires, 1);
+                let block = benchmark_block(random, gates, wires, 1);
                 assert!(network::check(&block).is_ok(), "{shape:?} {gates}");
                 assert!(parts::reduces(&block), "{shape:?} {gates}");
             }

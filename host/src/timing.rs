@@ -1,19 +1,14 @@
-//! Activities, gains, paths, slacks and judging (document 01, "Gains, paths, building up"; document 02, K2). The block has
-//! no loop.
+//! Activities, gains, paths, slacks and judging (document 01, "Gains, paths, building up"; document 02, K2 and K3). The block
+//! has no loop.
 
 use crate::block::{refuse, Block, Refusal, Wire};
-
-/// The activity of a net of probability p, scaled by 65,536.
-pub fn activity(p: u32) -> u64 {
-    2 * u64::from(p) * (256 - u64::from(p))
-}
 
 /// The sum of the activities of a gate's wires in; for gate 0 the input's own.
 pub fn input_activity(block: &Block, gate: usize) -> u64 {
     if gate == 0 {
-        return activity(block.p);
+        return u64::from(block.input_activity());
     }
-    block.wires.iter().filter(|w| w.to == gate).map(|w| activity(block.gates[w.from].p)).sum()
+    block.wires.iter().filter(|w| w.to == gate).map(|w| u64::from(block.output_activity(w.from))).sum()
 }
 
 /// The gain of the tick that comes after `increase` ticks, `None` beyond the widths.

@@ -1,9 +1,12 @@
 //! The blocks that document 01 tries by hand, with the answers that it gives for them; for the bridge, which document 02's
 //! K1 changes, the answer given there. Numbers that are left open (some savings, some delays) are worked out by hand, and
-//! so are the answers of some blocks with wire delays (document 02, K2); no answer comes from a program.
+//! so are the answers of some blocks with wire delays and with measured activities (document 02, K2 and K3); no answer
+//! comes from a program.
+
+pub mod edition_3;
 
 use crate::block::{encode, Block};
-use crate::generate::delay_wires;
+use crate::generate::editions::delay_wires;
 use crate::text;
 
 /// A wire's activity where p is 128.
@@ -58,6 +61,11 @@ pub fn delayed_diamond(delays: [u32; 4]) -> Block {
     let mut block = diamond(12);
     delay_wires(&mut block, delays);
     block
+}
+
+/// 001's parallel gates, 4 ticks to spare.
+pub fn paper_parallel() -> Block {
+    text::read(include_str!("../../examples/parallel.text")).expect("the parallel gates")
 }
 
 /// 001's chain with so many ticks to spare.
@@ -204,6 +212,7 @@ pub fn edition_2() -> Vec<Worked> {
 pub fn all() -> Vec<Worked> {
     let mut all = edition_1();
     all.extend(edition_2());
+    all.extend(edition_3::all());
     all
 }
 

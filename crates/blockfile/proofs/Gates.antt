@@ -12,8 +12,9 @@ use Rattle.lists.proofs.Over.{length-build}
 use Rattle.model.specs.declared.Refusal.{Refusal}
 use Rattle.model.specs.Limits.{max-steps}
 use Rattle.model.specs.Block.{Gate}
+use Rattle.model.specs.Edition.{activity-of}
 use Rattle.model.specs.Netlist.{DrawnGate, gate-of}
-use Rattle.model.specs.Field.{body-at}
+use Rattle.model.specs.Field.{number, body-at}
 use Rattle.model.specs.File.{gate, Reading, found, refused, read-field, read-gates}
 use Rattle.model.specs.Arrays.{step-at}
 use Rattle.model.specs.Answer.{refusal, refusal-answer}
@@ -41,10 +42,10 @@ gates-same g A =
 
 module _ {s : List ℕ} {o ed n : ℕ} {b : List ℕ} (j : Judged (gate ed) s o n b) (g : ℕ) where
   pub gate-refused : (A : GateArrays) (x : Refusal) → (n ≡ 0 → ⊥) → refusal-answer x ≡ refusal n o → GateRead s o ed g A A (Refused x)
-  gate-refused A x z e = record { reading = ap (reading-map gate-of) (judged-refused j x z e); kept = gates-same g A; untouched = λ y f. refl }
+  gate-refused A x z e = record { reading = ap (reading-map (gate-of ed)) (judged-refused j x z e); kept = gates-same g A; untouched = λ y f. refl }
 
-  pub gate-found : (old new : GateArrays) (q : ℕ) → n ≡ 0 → GateStored b g old new → q ≡ offset-behind s o → GateRead s o ed g old new (Read q)
-  gate-found old new q z r e = record { reading = rw (judged-found j z, r .stored ed, e); kept = r .kept; untouched = λ x f. absurd (read-not-refused q x f) }
+  pub gate-found : (old new : GateArrays) (a q : ℕ) → n ≡ 0 → a ≡ activity-of ed (number b 2) → GateStored b a g old new → q ≡ offset-behind s o → GateRead s o ed g old new (Read q)
+  gate-found old new a q z active r e = record { reading = rw (judged-found j z, r .stored, active, e); kept = r .kept; untouched = λ x f. absurd (read-not-refused q x f) }
 
 -- what was found or refused before it was seen through f
 module _ {A B : Type 0} (f : A → B) where
@@ -75,7 +76,7 @@ module _ {A B : Type 0} (f : A → B) where
 pub record GatesSoFar (ed : ℕ) (s : List ℕ) (p i : ℕ) (A : GateArrays) (o : ℕ) : Type 0 where
   pub drawn : List DrawnGate
   pub were-read : read-gates ed i s p ≡ found drawn o
-  pub held : gates-held A i ≡ map gate-of drawn
+  pub held : gates-held A i ≡ map (gate-of ed) drawn
   pub few : (g : ℕ) → g < i → getD (A .counts) g 0 ≤ max-steps
 
 pub gates-none : (ed : ℕ) (s : List ℕ) (p : ℕ) (A : GateArrays) → GatesSoFar ed s p 0 A p
@@ -94,7 +95,7 @@ module _ {ed : ℕ} {s : List ℕ} {p i : ℕ} {A : GateArrays} {o : ℕ} (r : G
   -- one more is read ..
   pub gates-more : (B : GateArrays) (q : ℕ) → GateRead s o ed i A B (Read q) → GatesSoFar ed s p (i + 1) B q
   gates-more B q t =
-      let x = map-found gate-of (read-field (gate ed) s o) (gate-held B i) q (t .reading) in
+      let x = map-found (gate-of ed) (read-field (gate ed) s o) (gate-held B i) q (t .reading) in
       let k = t .kept in
       let same : StoredGates.GatesKept i (A .delays) (A .activities) (A .counts) (A .step-widths) (A .drops) (B .delays) (B .activities) (B .counts) (B .step-widths) (B .drops) =
       record { same-delays = k .delays; same-activities = k .activities; same-counts = k .counts; same-widths = k .step-widths; same-drops = k .drops } in
@@ -103,7 +104,7 @@ module _ {ed : ℕ} {s : List ℕ} {p i : ℕ} {A : GateArrays} {o : ℕ} (r : G
       record {
         drawn = r .drawn ++ (x .value ∷ []);
         were-read = read-gates-more ed s i p (r .were-read) (x .was-found);
-        held = StoredGates.gate-stored i (A .delays) (A .activities) (A .counts) (A .step-widths) (A .drops) (B .delays) (B .activities) (B .counts) (B .step-widths) (B .drops) same (r .few) (r .drawn) (x .value) (r .held) (x .seen);
+        held = StoredGates.gate-stored i (A .delays) (A .activities) (A .counts) (A .step-widths) (A .drops) (B .delays) (B .activities) (B .counts) (B .step-widths) (B .drops) same (r .few) (gate-of ed) (r .drawn) (x .value) (r .held) (x .seen);
         few = λ (g : ℕ) (h : g < i + 1).
             ⊎-elim (λ (e : g ≡ i). rw (e, steps) (few-steps ed s o (x .was-found)))
             (λ (l : g < i). rw (k .counts g l) (r .few g l))
@@ -111,12 +112,12 @@ module _ {ed : ℕ} {s : List ℕ} {p i : ℕ} {A : GateArrays} {o : ℕ} (r : G
       }
 
   -- .. or refused, and then all are
-  pub gates-refused : (n : ℕ) (B : GateArrays) (x : Refusal) → i < n → GateRead s o ed i A B (Refused x) → refusing x ≡ reading-map (map gate-of) (read-gates ed n s p)
+  pub gates-refused : (n : ℕ) (B : GateArrays) (x : Refusal) → i < n → GateRead s o ed i A B (Refused x) → refusing x ≡ reading-map (map (gate-of ed)) (read-gates ed n s p)
   gates-refused n B x h t =
-      sym (ap (reading-map (map gate-of)) (read-gates-refused ed s i n p h (r .were-read) (map-refused gate-of (read-field (gate ed) s o) (refusal-answer x .number) (getD (refusal-answer x .values) 0 0) (t .reading))))
+      sym (ap (reading-map (map (gate-of ed))) (read-gates-refused ed s i n p h (r .were-read) (map-refused (gate-of ed) (read-field (gate ed) s o) (refusal-answer x .number) (getD (refusal-answer x .values) 0 0) (t .reading))))
 
   -- all are read
-  pub gates-all : (n : ℕ) → i ≡ n → found (gates-held A n) o ≡ reading-map (map gate-of) (read-gates ed n s p)
+  pub gates-all : (n : ℕ) → i ≡ n → found (gates-held A n) o ≡ reading-map (map (gate-of ed)) (read-gates ed n s p)
   gates-all n e = rw (← e, r .were-read, r .held)
 
 -- Arrays as long as those that were lent.

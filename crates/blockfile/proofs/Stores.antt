@@ -9,7 +9,6 @@ use native.Mathlib.Omega.{arith}
 use lib.ListN.{length, set, take, drop}
 use lib.Seq.{getD-set-same, getD-set-other}
 use Rattle.lists.proofs.Over.{build-same}
-use Rattle.model.specs.Activity.{activity}
 use Rattle.model.specs.Field.{number}
 use Rattle.model.specs.Arrays.{step-place, step-at}
 use Rattle.blockfile.specs.Held.{Kept, StepsStored, GateStored, gate-arrays}
@@ -70,17 +69,15 @@ steps-all s g j w₀ d₀ w d even most e r =
 -- a gate is stored
 pub gate-stored : (b : List ℕ) (g : ℕ) (ds us cs ws ps ws′ ps′ : List ℕ) (x a k : ℕ) → g < length ds → g < length us → g < length cs
     → x ≡ number b 0
-    → a ≡ activity (number b 2)
     → StepsStored (take (length b - 4) (drop 4 b)) g k ws ps ws′ ps′
-    → GateStored b g (gate-arrays ds us cs ws ps) (gate-arrays (set ds g x) (set us g a) (set cs g k) ws′ ps′)
-gate-stored b g ds us cs ws ps ws′ ps′ x a k hd ha hc ex ea r =
+    → GateStored b a g (gate-arrays ds us cs ws ps) (gate-arrays (set ds g x) (set us g a) (set cs g k) ws′ ps′)
+gate-stored b g ds us cs ws ps ws′ ps′ x a k hd ha hc ex r =
     record {
-      stored = λ (ed : ℕ). rw (
+      stored = rw (
         getD-set-same ds g x 0 hd,
         getD-set-same us g a 0 ha,
         getD-set-same cs g k 0 hc,
         ex,
-        ea,
         r .stored,
         steps-part b,
       );

@@ -9,10 +9,10 @@ use lib.ListN.{length, getD}
 use Rattle.model.specs.declared.Refusal.{Refusal}
 use Rattle.model.specs.Limits.{max-wires}
 use Rattle.model.specs.Block.{Gate, Wire}
+use Rattle.model.specs.Edition.{activity-of}
 use Rattle.model.specs.Netlist.{Netlist, gate-of, block-of}
 use Rattle.model.specs.Field.{number}
 use Rattle.model.specs.File.{block, says, in-range, found, read-field, read-gates, read-wires, decode, read-block, netlist}
-use Rattle.model.specs.Activity.{activity}
 use Rattle.model.specs.Answer.{refusal, refusal-answer}
 use Rattle.model.proofs.Limited.{header-limits}
 use Rattle.model.proofs.Reading.{read-gates-inside, decode-block-refused, decode-gates-refused, decode-wires-refused, decode-found}
@@ -50,14 +50,14 @@ module _ {s : List ℕ} {m : ℕ} {b : List ℕ} (j : Judged block s 0 m b) wher
       header = rw behind (judged-found j z)
 
       -- a gate is refused
-      pub block-gates-refused : (x : Refusal) → refusing x ≡ reading-map (map gate-of) (read-gates (getD b 0 0) (getD b 1 0) s p) → refusing x ≡ read-block s
+      pub block-gates-refused : (x : Refusal) → refusing x ≡ reading-map (map (gate-of (getD b 0 0))) (read-gates (getD b 0 0) (getD b 1 0) s p) → refusing x ≡ read-block s
       block-gates-refused x e =
           whole-refused s x
-          (decode-gates-refused s header (map-refused (map gate-of) (read-gates (getD b 0 0) (getD b 1 0) s p) (refusal-answer x .number) (getD (refusal-answer x .values) 0 0) e))
+          (decode-gates-refused s header (map-refused (map (gate-of (getD b 0 0))) (read-gates (getD b 0 0) (getD b 1 0) s p) (refusal-answer x .number) (getD (refusal-answer x .values) 0 0) e))
 
-      module _ (gs : List Gate) (q : ℕ) (g : found gs q ≡ reading-map (map gate-of) (read-gates (getD b 0 0) (getD b 1 0) s p)) where
-        drawn : FoundBefore (map gate-of) (read-gates (getD b 0 0) (getD b 1 0) s p) gs q
-        drawn = map-found (map gate-of) (read-gates (getD b 0 0) (getD b 1 0) s p) gs q g
+      module _ (gs : List Gate) (q : ℕ) (g : found gs q ≡ reading-map (map (gate-of (getD b 0 0))) (read-gates (getD b 0 0) (getD b 1 0) s p)) where
+        drawn : FoundBefore (map (gate-of (getD b 0 0))) (read-gates (getD b 0 0) (getD b 1 0) s p) gs q
+        drawn = map-found (map (gate-of (getD b 0 0))) (read-gates (getD b 0 0) (getD b 1 0) s p) gs q g
 
         -- the wires begin within the file
         pub wires-from : q ≤ length s
@@ -69,7 +69,7 @@ module _ {s : List ℕ} {m : ℕ} {b : List ℕ} (j : Judged block s 0 m b) wher
 
         -- the block is found
         pub block-found : (ws : List Wire) → found ws (length s) ≡ read-wires max-wires (getD b 0 0) (getD b 1 0) [] s q
-            → found (record { arrival = number b 2; deadline = number b 4; activity = activity (number b 6); gates = gs; wires = ws }) (length s) ≡ read-block s
+            → found (record { arrival = number b 2; deadline = number b 4; activity = activity-of (getD b 0 0) (number b 6); gates = gs; wires = ws }) (length s) ≡ read-block s
         block-found ws e =
             rw (drawn .seen)
             (whole-found s (netlist (says block b) (drawn .value) ws) (length s) (decode-found s header (drawn .was-found) (sym e)))

@@ -13,7 +13,8 @@ use Rattle.lists.proofs.Over.{length-build}
 use Rattle.model.specs.declared.Refusal.{Refusal}
 use Rattle.model.specs.Limits.{max-wires}
 use Rattle.model.specs.Block.{Wire}
-use Rattle.model.specs.File.{wire, wire-bytes, delay-in, says, some, same-ends, found, refused, read-field, read-wires}
+use Rattle.model.specs.Edition.{wire-bytes, delay-in}
+use Rattle.model.specs.File.{wire, says, some, same-ends, found, refused, read-field, read-wires}
 use Rattle.model.specs.Answer.{refusal, refusal-answer}
 use Rattle.model.proofs.Every.{some-append}
 use Rattle.model.proofs.Fault.{found-inside}

@@ -2,12 +2,12 @@
 use mathlib.Core.Path.{_≡_}
 use mathlib.Core.List.{List}
 use Prim.Native.Nat.{ℕ, _*_, _<_, _≤_}
-use lib.ListN.{length, getD}
+use lib.ListN.{length, getD, drop}
 use Rattle.lists.specs.Over.{build}
 use Rattle.model.specs.Limits.{max-gates, max-steps, max-wires}
 use Rattle.model.specs.Block.{Gate, Wire}
-use Rattle.model.specs.Netlist.{gate-of}
-use Rattle.model.specs.File.{gate, says, steps-in}
+use Rattle.model.specs.Field.{number}
+use Rattle.model.specs.File.{steps-in}
 use Rattle.model.specs.Arrays.{step-at, gate-at, gates-in, wire-at, wires-in}
 
 -- The arrays of the gates.
@@ -83,7 +83,7 @@ pub record StepsStored (steps : List ℕ) (g count : ℕ) (old-widths old-drops 
   pub widths-kept : Kept (g * max-steps) old-widths new-widths
   pub drops-kept : Kept (g * max-steps) old-drops new-drops
 
--- The body is stored as gate g, whatever the edition, and the gates below are as they were. What stands above gate g is free.
-pub record GateStored (body : List ℕ) (g : ℕ) (old new : GateArrays) : Type 0 where
-  pub stored : (edition : ℕ) → gate-held new g ≡ gate-of (says (gate edition) body)
+-- The body is stored as gate g with its net's activity, and the gates below are as they were. What stands above gate g is free.
+pub record GateStored (body : List ℕ) (activity g : ℕ) (old new : GateArrays) : Type 0 where
+  pub stored : gate-held new g ≡ record { delay = number body 0; activity = activity; steps = steps-in (drop 4 body) }
   pub kept : GatesKept g old new

@@ -5,9 +5,9 @@ use mathlib.Core.List.{List, _∷_}
 use Prim.Native.Nat.{ℕ}
 use lib.ListN.{length, getD}
 use Rattle.model.specs.declared.Refusal.{Refusal}
-use Rattle.model.specs.Activity.{activity}
 use Rattle.model.specs.Field.{number}
 use Rattle.model.specs.Block.{Wire, Block}
+use Rattle.model.specs.Edition.{activity-of}
 use Rattle.model.specs.Netlist.{gate-of}
 use Rattle.model.specs.File.{Reading, found, refused, gate, wire, read-field}
 use Rattle.model.specs.Answer.{refusal-answer}
@@ -36,7 +36,7 @@ reading-map f (refused k o) = refused k o
 
 -- The gate field of an edition at o was read into place g, and the gates below are as they were; after a refusal all is. What stands above gate g, once it is read, is free.
 pub record GateRead (s : List ℕ) (o edition g : ℕ) (old new : GateArrays) (r : FieldRead) : Type 0 where
-  pub reading : passing r (gate-held new g) ≡ reading-map gate-of (read-field (gate edition) s o)
+  pub reading : passing r (gate-held new g) ≡ reading-map (gate-of edition) (read-field (gate edition) s o)
   pub kept : GatesKept g old new
   pub untouched : (x : Refusal) → r ≡ Field.Refused x → new ≡ old
 
@@ -54,7 +54,7 @@ wires-passing s (Wires.Refused x) A = refusing x
 
 -- the numbers of a block field's body, with a wire count
 abbrev pub said-of : List ℕ → ℕ → BlockRead
-said-of b m = Whole.Read (getD b 1 0) m (number b 2) (number b 4) (activity (number b 6))
+said-of b m = Whole.Read (getD b 1 0) m (number b 2) (number b 4) (activity-of (getD b 0 0) (number b 6))
 
 -- the block in the arrays, up to the end of the file
 abbrev pub block-passing : List ℕ → BlockRead → GateArrays → WireArrays → Reading Block

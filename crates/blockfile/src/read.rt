@@ -24,9 +24,9 @@ use fields::reader::due_field;
 use fields::reader::offset_behind;
 use model::Refusal;
 use model::activity::ActivityTable;
-use model::activity::activity_in;
 use model::activity::activity_table;
 use model::limits::MAX_WIRES;
+use ranges::edition::activity_of;
 use ranges::edition::wire_delay;
 use ranges::seen::mark;
 
@@ -79,13 +79,13 @@ fn read_gate(
     }
     store_gate(
         body,
+        activity_of(edition, number_at(body, 2), table),
         gate,
         delays,
         activities,
         counts,
         step_widths,
         drops,
-        table,
     );
     FieldRead::Read {
         next: offset_behind(file, offset),
@@ -108,7 +108,7 @@ fn read_gates(
     requires { ⌜ gates ≤ max-gates ⌝ }
     requires { ⌜ GateRoom (gate-arrays (now delays) (now activities) (now counts) (now «step_widths») (now drops)) ⌝ }
     requires { ⌜ now table ≡ Activity.activities ⌝ }
-    ensures { λ r. ⌜ passing r (gates-held (gate-arrays (now (delays .exit)) (now (activities .exit)) (now (counts .exit)) (now («step_widths» .exit)) (now (drops .exit))) gates) ≡ reading-map (map gate-of) (read-gates edition gates (now (file .entry)) start) ⌝ }
+    ensures { λ r. ⌜ passing r (gates-held (gate-arrays (now (delays .exit)) (now (activities .exit)) (now (counts .exit)) (now («step_widths» .exit)) (now (drops .exit))) gates) ≡ reading-map (map (gate-of edition)) (read-gates edition gates (now (file .entry)) start) ⌝ }
 {
     let mut offset = start;
     let mut gate = 0;
@@ -223,12 +223,13 @@ fn block_said(body: &[u8], wires: usize, table: &ActivityTable) -> BlockRead
     requires { ⌜ now table ≡ Activity.activities ⌝ }
     ensures { λ r. ⌜ r ≡ said-of (now (body .entry)) wires ⌝ }
 {
+    let edition = body[0];
     BlockRead::Read {
         gates: body[1] as usize,
         wires,
         arrival: number_at(body, 2),
         deadline: number_at(body, 4),
-        activity: activity_in(table, number_at(body, 6)),
+        activity: activity_of(edition, number_at(body, 6), table),
     }
 }
 

@@ -4,12 +4,9 @@ ghost use mathlib.Core.Bool.{true};
 ghost use Prim.Native.Nat.{ℕ, _*_, _<_, _≤_, _%_};
 ghost use lib.ListN.{length};
 ghost use Rattle.model.specs.Limits.{max-gates, max-steps};
-ghost use Rattle.model.specs.Activity as Activity;
 ghost use Rattle.model.specs.File as File;
 ghost use Rattle.blockfile.specs.Held.{GateRoom, StepsStored, GateStored, gate-arrays};
 use fields::field::number_at;
-use model::activity::ActivityTable;
-use model::activity::activity_in;
 use model::limits::MAX_STEPS;
 use ranges::limits::GATE_BYTES;
 use ranges::limits::STEP_BYTES;
@@ -32,25 +29,23 @@ pub fn store_steps(steps: &[u8], gate: usize, step_widths: &mut [u32], drops: &m
     count as u32
 }
 
-// Stores a gate's body, in any edition.
+// Stores a gate's body, with its net's activity.
 pub fn store_gate(
     body: &[u8],
+    activity: u32,
     gate: usize,
     delays: &mut [u32],
     activities: &mut [u32],
     counts: &mut [u32],
     step_widths: &mut [u32],
     drops: &mut [u32],
-    table: &ActivityTable,
 )
     requires { ⌜ ((edition : ℕ) × (File.length-fits (File.gate edition) (length (now body)) ≡ true)) ⌝ }
     requires { ⌜ gate < max-gates ⌝ }
     requires { ⌜ GateRoom (gate-arrays (now delays) (now activities) (now counts) (now «step_widths») (now drops)) ⌝ }
-    requires { ⌜ now table ≡ Activity.activities ⌝ }
-    ensures { λ _. ⌜ GateStored (now (body .entry)) gate (gate-arrays (now (delays .entry)) (now (activities .entry)) (now (counts .entry)) (now («step_widths» .entry)) (now (drops .entry))) (gate-arrays (now (delays .exit)) (now (activities .exit)) (now (counts .exit)) (now («step_widths» .exit)) (now (drops .exit))) ⌝ }
+    ensures { λ _. ⌜ GateStored (now (body .entry)) activity gate (gate-arrays (now (delays .entry)) (now (activities .entry)) (now (counts .entry)) (now («step_widths» .entry)) (now (drops .entry))) (gate-arrays (now (delays .exit)) (now (activities .exit)) (now (counts .exit)) (now («step_widths» .exit)) (now (drops .exit))) ⌝ }
 {
-    let probability = number_at(body, 2);
     delays[gate] = number_at(body, 0);
-    activities[gate] = activity_in(table, probability);
+    activities[gate] = activity;
     counts[gate] = store_steps(&body[GATE_BYTES..], gate, step_widths, drops);
 }

@@ -12,6 +12,9 @@ use model::SlacksAnswer;
 use resizing::judge::judge;
 use resizing::slacks::slacks;
 
+// Bytes of the input, at most.
+const INPUT_BYTES: usize = 8192;
+
 fn print_number(n: u64) {
     io::write_all(STDOUT_FILENO, b" ");
     io::print_decimal(STDOUT_FILENO, n);
@@ -116,7 +119,7 @@ fn run_all(input: &[u8]) {
 }
 
 fn main() {
-    let mut input = io::buffer();
+    let mut input = [0u8; INPUT_BYTES];
     let n = io::read_full(0, &mut input);
     run_all(&input[..n]);
 }

@@ -13,7 +13,7 @@ use Rattle.lists.proofs.Compare.{le-or-lt}
 use Rattle.model.specs.Limits.{max-pairs}
 use Rattle.model.specs.Block.{Block, gate-count, first, last}
 use Rattle.model.specs.Netlist.{Netlist, block-of}
-use Rattle.model.specs.File.{Limited, encode}
+use Rattle.model.specs.File.{Limited, found, decode, encode}
 use Rattle.model.specs.Path.{Longest}
 use Rattle.model.specs.Gain.{saving}
 use Rattle.model.specs.InTime.{drawn, InTime, IsStart}
@@ -26,11 +26,12 @@ use Rattle.model.specs.Layout.{increase-bytes, list-bytes, GivesLayout, Answers
 use Rattle.model.specs.Answer.{Outcome, Slices, accepted, refusal, Line, Judged, ill-formed, well-formed, NotSeriesParallelAt, GivesCurve, GivesBest, AnswersSlacks, AnswersCurve, AnswersBest, AnswersJudge}
 use Rattle.model.proofs.Reading.{read-block-found}
 use Rattle.model.proofs.File.{encode-decodes}
+use Rattle.model.proofs.Editions.{Agree, same-block-read}
 use Rattle.model.proofs.Slack as paths
 use Rattle.model.proofs.Answer.{ill-unique, eleven-unique}
 use Rattle.parts.proofs.Remainder.{same-gates-left}
 use Rattle.parts.proofs.Remains.{some-end, left-exactly}
-use Rattle.demands.proofs.TableLaws.{ill-formed-number, passed, decided, roomy, answered-at, eleven-line, after-eleven}
+use Rattle.demands.proofs.TableLaws.{ill-formed-number, same-outcomes, passed, decided, roomy, answered-at, eleven-line, after-eleven}
 use Rattle.demands.proofs.TableLaws.{twelve-exactly as twelve-line}
 use Rattle.demands.proofs.CallLaws.{both, best-in-front, best-bytes, as-network, some-gate, along, late-or-not, in-time, slacks-lines, curve-lines, best-lines, judge-lines, layout-lines, best-accepts, layout-accepts, curve-accepts}
 use Rattle.demands.proofs.Judging.{accepted-in-time, accepted-saves}
@@ -192,6 +193,13 @@ module _ {file : List ℕ} {B : Block} (well : WellFormed file B) where
   pub left-when-not-built : ((g : ℕ) × Remains B g) ↔ NotBuilt B
   left-when-not-built = both (left-exactly (as-network well)) not-series-parallel
 
--- DOCUMENT 02, K2. "The optimum is claimed for both editions": what is said above holds of every well-formed file; and every netlist within the limits, of edition 1 or 2, with whatever wire delays the edition has, is said by such a file if its network is sound.
+-- DOCUMENT 02, K2. "The optimum is claimed for both editions": what is said above holds of every well-formed file; and every netlist within the limits, of any edition, with whatever wire delays and activities the edition has, is said by such a file if its network is sound.
 pub has-a-file : {N : Netlist} → Limited N → SoundNetwork (block-of N) → WellFormed (encode N) (block-of N)
 has-a-file {N} l sound = record { end = length (encode N); reads = read-block-found (encode N) (encode-decodes l); network = sound }
+
+-- DOCUMENT 02, K3. "Edition 3 gains are compared with 001 by these counts; editions 1 and 2 keep the formula": an edition matters by the activities alone. Two files that can be read, whose activities and other numbers agree, have the same outcomes, whatever their editions; the table of every call is a `Judged`.
+pub same-answers : {s t : List ℕ} {M N : Netlist} {m n : ℕ} → decode s ≡ found M m → decode t ≡ found N n → Agree M N
+    → {S : Type 0} (lent : S) (further : Block → Outcome S → Type 0) (o : Outcome S) → Judged s lent further o ↔ Judged t lent further o
+same-answers {s} {t} d e a lent further o =
+    let r = same-block-read s t d e a in
+    (same-outcomes further (r .0) (r .1), same-outcomes further (r .1) (r .0))

@@ -12,12 +12,12 @@ use Rattle.model.specs.Block.{Block}
 use Rattle.model.specs.Part.{SeriesParallel}
 use Rattle.model.specs.Slack.{spare}
 use Rattle.model.specs.Netlist.{block-of}
-use Rattle.model.specs.File.{decode, read-block}
+use Rattle.model.specs.File.{found, decode, read-block}
 use Rattle.model.specs.Refusal.{WellFormed, IllFormed, unread, loop, ends}
 use Rattle.model.specs.Answer.{Answer, Outcome, refusal, Line, fits, passes, At, Judged, ill-formed, well-formed, NotSeriesParallelAt, LateAt, SizingLines}
 use Rattle.model.proofs.Reading.{made-refused}
 use Rattle.model.proofs.Place.{refused-at-fault, at-fault-number}
-use Rattle.model.proofs.Answer.{carried, well-not-ill}
+use Rattle.model.proofs.Answer.{not-both, carried, well-not-ill}
 
 -- answers with different numbers
 pub apart : {a b : Answer} → a ≡ b → ¬ (a .number ≡ b .number) → ⊥
@@ -32,7 +32,19 @@ ill-formed-number file (unread e) =
 ill-formed-number file (loop B o e low is) = (omega arith, omega arith)
 ill-formed-number file (ends B o e none low is) = (omega arith, omega arith)
 
+-- files that hold the same block are ill-formed alike
+alike : {s t : List ℕ} {B : Block} {m n k p : ℕ} → read-block s ≡ found B m → read-block t ≡ found B n → IllFormed s k p → IllFormed t k p
+alike x y (unread e) = absurd (not-both x e)
+alike {t = t} {n = n} x y (loop C o e low is) = loop C n (carried (λ (X : Block). read-block t ≡ found X n) x e y) low is
+alike {t = t} {n = n} x y (ends C o e none low is) = ends C n (carried (λ (X : Block). read-block t ≡ found X n) x e y) none low is
+
 module _ {S : Type 0} {lent : S} {o : Outcome S} where
+  -- .. and have the same outcomes
+  pub same-outcomes : {s t : List ℕ} {B : Block} {m n : ℕ} (further : Block → Outcome S → Type 0) → read-block s ≡ found B m → read-block t ≡ found B n → Judged s lent further o → Judged t lent further o
+  same-outcomes further x y (ill-formed k p i e) = ill-formed k p (alike x y i) e
+  same-outcomes {t = t} {n = n} further x y (well-formed C w f) =
+      well-formed C (record { end = n; reads = carried (λ (X : Block). read-block t ≡ found X n) x (w .reads) y; network = w .network }) f
+
   -- of a well-formed file the further lines decide, for its own block
   pub own-lines : {file : List ℕ} {B : Block} (further : Block → Outcome S → Type 0) → WellFormed file B → Judged file lent further o → further B o
   own-lines further well (ill-formed k p i e) = absurd (well-not-ill well i)

@@ -79,7 +79,7 @@ pub fn gate_fault(field: Field, body: &[u8], edition: u8) -> u32
     if shape != 0 {
         return shape;
     }
-    if !gate_in_range(body) {
+    if !gate_in_range(body, edition) {
         return 4;
     }
     if drops_fall(&body[GATE_BYTES..]) {

@@ -131,7 +131,7 @@ drop-most (s ∷ ss) k limits =
     cond-at-most (ltb k (s .width)) (s .drop) (drop-of ss (k - s .width)) max-drop (limits 0 s (omega arith) .drop-most)
     (drop-most ss (k - s .width) (λ (j : ℕ) (d : Step) (h : j < length ss). limits (suc j) d (omega arith)))
 
--- no gain is above 63 × 32,768 × 1,000
+-- no gain is above 63 × 65,535 × 1,000
 pub gain-most : (B : Block) → BlockLimits B → (g k : ℕ) → g < gate-count B → gain B g k ≤ max-gain
 unfolding gain
 gain-most B l g k h = mul-le-mul (drop-most (gate B g .steps) k (l .gate-limits g .step-limits)) (input-most B l g h)

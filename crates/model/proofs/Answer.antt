@@ -34,7 +34,7 @@ eleven-unique p q a b = lowest-unique p q (a .1) (b .1)
 same-block : {r : Reading Block} {B C : Block} {o p : ℕ} → r ≡ found B o → r ≡ found C p → B ≡ C
 same-block e q = cc
 
-not-both : {r : Reading Block} {B : Block} {o k p : ℕ} → r ≡ found B o → r ≡ refused k p → ⊥
+pub not-both : {r : Reading Block} {B : Block} {o k p : ℕ} → r ≡ found B o → r ≡ refused k p → ⊥
 not-both e q = let z : _≡_ {A = ℕ} 0 1 = cc in omega arith
 
 -- what is said of the block that a file holds is said of every block that it holds

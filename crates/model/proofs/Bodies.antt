@@ -18,7 +18,8 @@ use Rattle.model.specs.Limits.{max-edition, max-steps}
 use Rattle.model.specs.Block.{Step, Wire}
 use Rattle.model.specs.Netlist.{DrawnGate}
 use Rattle.model.specs.Field.{number, two-bytes}
-use Rattle.model.specs.File.{Due, block, gate, wire, Value, Header, has-wire-delays, wire-bytes, delay-fits, length-fits, says, steps-in, header-body, step-bytes, gate-body, wire-body}
+use Rattle.model.specs.Edition.{has-wire-delays, wire-bytes, delay-fits}
+use Rattle.model.specs.File.{Due, block, gate, wire, Value, Header, length-fits, says, steps-in, header-body, step-bytes, gate-body, wire-body}
 
 -- the body of a field that says v
 abbrev pub body-of : (k : Due) → Value k → List ℕ
@@ -31,7 +32,7 @@ two-whole : (n : ℕ) → 256 * (n / 256) + n % 256 ≡ n
 two-whole n = number-two-bytes n []
 
 pub says-header : (h : Header) → says block (header-body h) ≡ h
-says-header h = rw (two-whole (h .arrival), two-whole (h .deadline), two-whole (h .probability))
+says-header h = rw (two-whole (h .arrival), two-whole (h .deadline), two-whole (h .switching))
 
 steps-in-bytes : (ss : List Step) → steps-in (flatMap step-bytes ss) ≡ ss
 unfolding steps-in flatMap
@@ -39,7 +40,7 @@ steps-in-bytes [] = refl
 steps-in-bytes (s ∷ ss) = rw (two-whole (s .width), two-whole (s .drop), steps-in-bytes ss)
 
 pub says-gate : (ed : ℕ) (g : DrawnGate) → says (gate ed) (gate-body g) ≡ g
-says-gate ed g = rw (two-whole (g .delay), two-whole (g .probability), steps-in-bytes (g .steps))
+says-gate ed g = rw (two-whole (g .delay), two-whole (g .switching), steps-in-bytes (g .steps))
 
 delay-again : (b : Bool) (w : Wire) → T (b || eqb (w .delay) 0) → cond b (number (w .source ∷ w .target ∷ cond b (two-bytes (w .delay)) []) 2) 0 ≡ w .delay
 delay-again true w t = two-whole (w .delay)

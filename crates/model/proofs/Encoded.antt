@@ -11,12 +11,13 @@ use Rattle.lists.proofs.Bool.{and-left, and-right, and-both}
 use Rattle.model.proofs.Every.{every-append, every-at}
 use Rattle.model.proofs.Fields.{Bytes, high-byte, low-byte}
 use Rattle.model.proofs.Bodies.{fitting-steps, gate-length-fits, wire-bytes-range, wire-length-fits}
-use Rattle.model.proofs.Limited.{HeaderLimits, step-limits, header-limits, wire-ranges}
-use Rattle.model.specs.Limits.{max-steps, max-delay, max-probability, max-gates}
+use Rattle.model.proofs.Limited.{HeaderLimits, switching-range, step-limits, gate-ranges, header-limits, wire-ranges}
+use Rattle.model.specs.Limits.{max-steps, max-gates}
 use Rattle.model.specs.Block.{Step, Wire}
 use Rattle.model.specs.Netlist.{DrawnGate, Netlist}
 use Rattle.model.specs.Field.{two-bytes, field}
-use Rattle.model.specs.File.{Header, block, gate, wire, has-wire-delays, wire-bytes, delay-bytes, in-range, step-in-range, every, tag-of, header-of, header-body, step-bytes, gate-body, wire-body, encode, Limited}
+use Rattle.model.specs.Edition.{has-wire-delays, wire-bytes, delay-bytes}
+use Rattle.model.specs.File.{Header, block, gate, wire, in-range, step-in-range, every, tag-of, header-of, header-body, step-bytes, gate-body, wire-body, encode, Limited}
 
 byte : ℕ → Bool
 byte b = ltb b 256
@@ -51,11 +52,11 @@ fields-of-bytes f test g (x ∷ xs) t =
 
 header-of-bytes : (h : Header) → HeaderLimits h → OfBytes (header-body h)
 header-of-bytes h l =
-    one-more (h .edition) (h .gate-count ∷ two-bytes (h .arrival) ++ two-bytes (h .deadline) ++ two-bytes (h .probability)) (omega arith)
-    (one-more (h .gate-count) (two-bytes (h .arrival) ++ two-bytes (h .deadline) ++ two-bytes (h .probability)) (omega arith)
-    (joined (two-bytes (h .arrival) ++ two-bytes (h .deadline)) (two-bytes (h .probability))
+    one-more (h .edition) (h .gate-count ∷ two-bytes (h .arrival) ++ two-bytes (h .deadline) ++ two-bytes (h .switching)) (omega arith)
+    (one-more (h .gate-count) (two-bytes (h .arrival) ++ two-bytes (h .deadline) ++ two-bytes (h .switching)) (omega arith)
+    (joined (two-bytes (h .arrival) ++ two-bytes (h .deadline)) (two-bytes (h .switching))
     (joined (two-bytes (h .arrival)) (two-bytes (h .deadline)) (two (h .arrival) (omega arith)) (two (h .deadline) (omega arith)))
-    (two (h .probability) (omega arith))))
+    (two (h .switching) (omega (arith, switching-range (h .edition) (h .switching) (l .switching-most) .0)))))
 
 step-of-bytes : (s : Step) → T (step-in-range s) → OfBytes (step-bytes s)
 step-of-bytes s t =
@@ -71,15 +72,11 @@ gate-of-bytes ed g t =
     let r : T (in-range (gate ed) g) = and-left (in-range (gate ed) g) (leb (length (g .steps)) max-steps) t in
     let c : length (g .steps) ≤ max-steps = leb→le (length (g .steps)) max-steps (and-right (in-range (gate ed) g) (leb (length (g .steps)) max-steps) t) in
     let k = fitting-steps ed (length (gate-body g)) (gate-length-fits ed g c) in
-    let a = leb (g .delay) max-delay in
-    let b = leb (g .probability) max-probability in
-    let e = every step-in-range (g .steps) in
-    let d : g .delay ≤ max-delay = leb→le (g .delay) max-delay (and-left a b (and-left (a && b) e r)) in
-    let p : g .probability ≤ max-probability = leb→le (g .probability) max-probability (and-right a b (and-left (a && b) e r)) in
+    let l = gate-ranges ed g r in
     field-of-bytes (tag-of (gate ed)) (gate-body g) (omega arith) (omega (arith, k .1, k .2))
-    (joined (two-bytes (g .delay) ++ two-bytes (g .probability)) (flatMap step-bytes (g .steps))
-    (joined (two-bytes (g .delay)) (two-bytes (g .probability)) (two (g .delay) (omega arith)) (two (g .probability) (omega arith)))
-    (fields-of-bytes step-bytes step-in-range step-of-bytes (g .steps) (and-right (a && b) e r)))
+    (joined (two-bytes (g .delay) ++ two-bytes (g .switching)) (flatMap step-bytes (g .steps))
+    (joined (two-bytes (g .delay)) (two-bytes (g .switching)) (two (g .delay) (omega (arith, l .0))) (two (g .switching) (omega (arith, switching-range ed (g .switching) (l .1) .0))))
+    (fields-of-bytes step-bytes step-in-range step-of-bytes (g .steps) (l .2)))
 
 delay-of-bytes : (f : Bool) (d : ℕ) → d < 65536 → OfBytes (cond f (two-bytes d) [])
 delay-of-bytes true d h = two d h

@@ -1,14 +1,14 @@
 -- Laws of `every` and `some`: a list that grows at its end, and the tests element by element, for code that goes by index.
 -- Assumes nothing.
 use mathlib.Core.Path.{_≡_, refl, _∙_, ap}
-use mathlib.Core.List.{List, [], _∷_, _++_, reverse, reverse-cons}
+use mathlib.Core.List.{List, [], _∷_, _++_, map, reverse, reverse-cons}
 use mathlib.Core.Bool.{Bool, true, false, _&&_, _||_}
 use Prim.Native.Nat.{ℕ, zero, suc, _<_}
 use native.Mathlib.Nat.{not-suc-le-zero, le-of-suc-le-suc}
 use native.Mathlib.Omega.{arith}
 use lib.Dec.{T}
 use lib.ListN.{length, getD}
-use Rattle.lists.proofs.Bool.{and-left, and-right}
+use Rattle.lists.proofs.Bool.{and-left, and-right, and-both}
 use Rattle.lists.specs.Over.{build}
 use Rattle.model.specs.File.{every, some}
 
@@ -83,6 +83,19 @@ module _ {A : Type 0} (test : A → Bool) where
   every-anywhere [] i d t u = u
   every-anywhere (x ∷ xs) zero d t u = and-left (test x) (every test xs) t
   every-anywhere (x ∷ xs) (suc i) d t u = every-anywhere xs i d (and-right (test x) (every test xs) t) u
+
+  -- so it is seen through f
+  pub every-map : {B : Type 0} (f : B → A) (xs : List B) → every test (map f xs) ≡ every (λ (x : B). test (f x)) xs
+  unfolding every
+  every-map f [] = refl
+  every-map f (x ∷ xs) = ap (_&&_ (test (f x))) (every-map f xs)
+
+  -- a weaker test passes, too
+  pub every-weaker : (weaker : A → Bool) → ((x : A) → T (test x) → T (weaker x)) → (xs : List A) → T (every test xs) → T (every weaker xs)
+  unfolding every
+  every-weaker weaker w [] t = tt
+  every-weaker weaker w (x ∷ xs) t =
+      and-both (weaker x) (every weaker xs) (w x (and-left (test x) (every test xs) t)) (every-weaker weaker w xs (and-right (test x) (every test xs) t))
 
   pub some-append : (xs ys : List A) → some test (xs ++ ys) ≡ some test xs || some test ys
   unfolding some

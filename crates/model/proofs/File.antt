@@ -18,7 +18,8 @@ use Rattle.model.specs.Limits.{max-wires, max-steps}
 use Rattle.model.specs.Block.{Wire}
 use Rattle.model.specs.Netlist.{DrawnGate, Netlist}
 use Rattle.model.specs.Field.{field, body-at, body-to}
-use Rattle.model.specs.File.{Due, block, gate, wire, Value, Header, found, tag-of, delay-fits, length-fits, says, in-range, drops-fall, is-fresh, every, read-field, read-gates, read-wires, decode, encode, netlist, header-of, gate-body, wire-body, all-fresh, fresh, Limited}
+use Rattle.model.specs.Edition.{delay-fits}
+use Rattle.model.specs.File.{Due, block, gate, wire, Value, Header, found, tag-of, length-fits, says, in-range, drops-fall, is-fresh, every, read-field, read-gates, read-wires, decode, encode, netlist, header-of, gate-body, wire-body, all-fresh, fresh, Limited}
 
 -- A FIELD OF ANY KIND. What v must satisfy for its field to be read where k is due.
 record Readable (k : Due) (v : Value k) : Type 0 where
@@ -237,7 +238,7 @@ header-again s d = λ i. record {
   gate-count = read-gates-length (d .header .edition) s (d .header .gate-count) (d .gates-at) (d .gates-read) i;
   arrival = d .header .arrival;
   deadline = d .header .deadline;
-  probability = d .header .probability;
+  switching = d .header .switching;
 }
 
 -- A file of bytes that is decoded is the file of its netlist.

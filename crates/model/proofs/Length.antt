@@ -20,7 +20,8 @@ use Rattle.model.specs.Limits.{max-edition, max-gates, max-wires, max-st
 use Rattle.model.specs.Block.{Wire}
 use Rattle.model.specs.Netlist.{Netlist}
 use Rattle.model.specs.Field.{header-bytes, body-at, body-to}
-use Rattle.model.specs.File.{Due, block, gate, wire, wire-bytes, length-fits, says, fault, found, decode}
+use Rattle.model.specs.Edition.{wire-bytes}
+use Rattle.model.specs.File.{Due, block, gate, wire, length-fits, says, fault, found, decode}
 
 -- bytes of a field's body, at most
 abbrev body-most : Due → ℕ

@@ -1,13 +1,13 @@
--- The limits of a block that a file holds, as bounds on its numbers: for every gate, step and wire (document 01, "The block file"). The last theorem, `read-limits`, is what other crates cite for whatever `read-block` finds.
+-- The limits of a block that a file holds, as bounds on its numbers: for every gate, step and wire (document 01, "The block file"; document 02, K2 and K3). The last theorem, `read-limits`, is what other crates cite for whatever `read-block` finds.
 -- Assumes nothing.
-use mathlib.Core.Path.{_≡_, sym, subst}
+use mathlib.Core.Path.{_≡_, refl, sym, _∙_, ap, subst}
 use mathlib.Core.Logic.{_≢_, ⊎-elim}
-use mathlib.Core.List.{List, [], _∷_}
-use mathlib.Core.Bool.{not, _&&_}
+use mathlib.Core.List.{List, [], _∷_, map}
+use mathlib.Core.Bool.{Bool, true, false, cond, not, _&&_}
 use Prim.Native.Nat.{ℕ, zero, suc, _+_, _*_, _-_, _<_, _≤_}
 use native.Mathlib.Nat.{mul-le-mul-right, not-suc-le-zero, le-of-suc-le-suc}
 use native.Mathlib.Omega.{arith}
-use lib.Dec.{T, leb, ltb, eqb, leb→le, ltb→lt, eqb-refl, T-not}
+use lib.Dec.{T, leb, ltb, eqb, leb→le, le→leb, ltb→lt, eqb-refl, T-not}
 use lib.ListN.{length, getD, length-map, List·getD-map}
 use Rattle.lists.proofs.Bool.{and-left, and-right, and-both, is-true}
 use Rattle.lists.proofs.Compare.{le-or-lt}
@@ -16,8 +16,9 @@ use Rattle.model.proofs.File.{decoded-is-limited}
 use Rattle.model.proofs.Reading.{made-found}
 use Rattle.model.specs.Limits.{max-edition, max-gates, max-wires, max-steps, max-probability, max-delay, max-wire-delay, max-width, max-drop, max-time, max-activity}
 use Rattle.model.specs.Activity.{activity}
-use Rattle.model.specs.Block.{Step, Gate, Wire, Block, gate-count}
+use Rattle.model.specs.Block.{Step, Gate, Wire, Block, no-gate, gate-count}
 use Rattle.model.specs.Block as Block
+use Rattle.model.specs.Edition.{has-activities, max-switching, activity-of}
 use Rattle.model.specs.Netlist.{DrawnGate, Netlist, gate-of, block-of}
 use Rattle.model.specs.File.{gate, wire, block, every, in-range, drops-fall, step-in-range, falls, falls-below, fresh, some, same-ends, all-fresh, header-of, Header, Limited, found, decode, read-block}
 
@@ -28,7 +29,7 @@ product-at-most p q h e =
     let f : q ≡ 128 + d = omega arith in
     rw f (omega (arith, mul-le-mul-right d h))
 
-twice-at-most : (p q : ℕ) → p * q ≤ 16384 → 2 * p * q ≤ max-activity
+twice-at-most : (p q : ℕ) → p * q ≤ 16384 → 2 * p * q ≤ 32768
 twice-at-most p q h = omega arith
 
 none-at-most : (p q : ℕ) → q ≡ 0 → p * q ≤ 16384
@@ -37,7 +38,8 @@ none-at-most p q e = rw e (omega arith)
 turned : (p q : ℕ) → q * p ≤ 16384 → p * q ≤ 16384
 turned p q h = omega arith
 
-pub activity-at-most : (p : ℕ) → activity p ≤ max-activity
+-- by the formula no activity is above that of p = 128
+pub activity-at-most : (p : ℕ) → activity p ≤ 32768
 unfolding activity
 activity-at-most p =
     twice-at-most p (256 - p)
@@ -47,6 +49,14 @@ activity-at-most p =
     (λ (k : 256 < p). none-at-most p (256 - p) (omega arith))
     (le-or-lt p 256))
     (le-or-lt p 128))
+
+switching-by : (f : Bool) (v : ℕ) → v ≤ cond f max-activity max-probability → (v ≤ max-activity) × (cond f v (activity v) ≤ max-activity)
+switching-by true v h = (h, h)
+switching-by false v h = (omega arith, omega (arith, activity-at-most v))
+
+-- the number for a net's switching and the net's activity have the same bound in every edition
+pub switching-range : (ed v : ℕ) → v ≤ max-switching ed → (v ≤ max-activity) × (activity-of ed v ≤ max-activity)
+switching-range ed = switching-by (has-activities ed)
 
 -- STEPS
 pub record StepLimits (s : Step) : Type 0 where
@@ -89,33 +99,51 @@ pub record GateLimits (g : Gate) : Type 0 where
   pub step-limits : (j : ℕ) (d : Step) → j < length (g .steps) → StepLimits (getD (g .steps) j d)
   pub drops-fall : (j : ℕ) (d : Step) → suc j < length (g .steps) → getD (g .steps) (suc j) d .drop < getD (g .steps) j d .drop
 
-drawn-limits : (ed : ℕ) (g : DrawnGate) → T (in-range (gate ed) g) → T (leb (length (g .steps)) max-steps) → T (drops-fall (gate ed) g) → GateLimits (gate-of g)
-drawn-limits ed g r c f =
+-- the numbers of a gate field
+pub gate-ranges : (ed : ℕ) (g : DrawnGate) → T (in-range (gate ed) g) → (g .delay ≤ max-delay) × (g .switching ≤ max-switching ed) × T (every step-in-range (g .steps))
+gate-ranges ed g r =
     let a = leb (g .delay) max-delay in
-    let b = leb (g .probability) max-probability in
-    let u : T (a && b) = and-left (a && b) (every step-in-range (g .steps)) r in
-    let v : T (every step-in-range (g .steps)) = and-right (a && b) (every step-in-range (g .steps)) r in
+    let b = leb (g .switching) (max-switching ed) in
+    let c = every step-in-range (g .steps) in
+    let u : T (a && b) = and-left (a && b) c r in
+    (leb→le (g .delay) max-delay (and-left a b u), leb→le (g .switching) (max-switching ed) (and-right a b u), and-right (a && b) c r)
+
+pub gate-in-range : (ed : ℕ) (g : DrawnGate) → g .delay ≤ max-delay → g .switching ≤ max-switching ed → T (every step-in-range (g .steps)) → T (in-range (gate ed) g)
+gate-in-range ed g d v ss =
+    let a = leb (g .delay) max-delay in
+    let b = leb (g .switching) (max-switching ed) in
+    and-both (a && b) (every step-in-range (g .steps)) (and-both a b (le→leb (g .delay) max-delay d) (le→leb (g .switching) (max-switching ed) v)) ss
+
+drawn-limits : (ed : ℕ) (g : DrawnGate) → T (in-range (gate ed) g) → T (leb (length (g .steps)) max-steps) → T (drops-fall (gate ed) g) → GateLimits (gate-of ed g)
+drawn-limits ed g r c f =
+    let l = gate-ranges ed g r in
     record {
-      delay-most = leb→le (g .delay) max-delay (and-left a b u);
-      activity-most = activity-at-most (g .probability);
+      delay-most = l .0;
+      activity-most = switching-range ed (g .switching) (l .1) .1;
       step-count = leb→le (length (g .steps)) max-steps c;
-      step-limits = λ (j : ℕ) (d : Step) (h : j < length (g .steps)). step-limits (getD (g .steps) j d) (every-at step-in-range (g .steps) j d v h);
+      step-limits = λ (j : ℕ) (d : Step) (h : j < length (g .steps)). step-limits (getD (g .steps) j d) (every-at step-in-range (g .steps) j d (l .2) h);
       drops-fall = λ (j : ℕ) (d : Step) (h : suc j < length (g .steps)). falls-at (g .steps) j d f h;
     }
 
 -- a drawn gate that no number names
-abbrev no-drawn : DrawnGate
-no-drawn = record { delay = 0; probability = 0; steps = [] }
+abbrev pub no-drawn : DrawnGate
+no-drawn = record { delay = 0; switching = 0; steps = [] }
 
-gate-is : (N : Netlist) (g : ℕ) → Block.gate (block-of N) g ≡ gate-of (getD (N .gates) g no-drawn)
+never-switches : (f : Bool) → cond f 0 (activity 0) ≡ 0
 unfolding activity
-gate-is N g = List·getD-map gate-of (N .gates) g no-drawn
+never-switches true = refl
+never-switches false = refl
+
+pub gate-is : (N : Netlist) (g : ℕ) → Block.gate (block-of N) g ≡ gate-of (N .edition) (getD (N .gates) g no-drawn)
+gate-is N g =
+    let none : no-gate ≡ gate-of (N .edition) no-drawn = λ i. record { delay = 0; activity = sym (never-switches (has-activities (N .edition))) i; steps = [] } in
+    ap (getD (map (gate-of (N .edition)) (N .gates)) g) none ∙ List·getD-map (gate-of (N .edition)) (N .gates) g no-drawn
 
 gate-limits : {N : Netlist} → Limited N → (g : ℕ) → GateLimits (Block.gate (block-of N) g)
 unfolding every falls
 gate-limits {N} l g =
     rw (gate-is N g)
-    (drawn-limits (N .edition) (getD (N .gates) g no-drawn) (every-anywhere (in-range (gate (N .edition))) (N .gates) g no-drawn (l .gates) tt)
+    (drawn-limits (N .edition) (getD (N .gates) g no-drawn) (every-anywhere (in-range (gate (N .edition))) (N .gates) g no-drawn (l .gates) (gate-in-range (N .edition) no-drawn (omega arith) (omega arith) tt))
     (every-anywhere (λ (x : DrawnGate). leb (length (x .steps)) max-steps) (N .gates) g no-drawn (l .steps) tt)
     (every-anywhere (drops-fall (gate (N .edition))) (N .gates) g no-drawn (l .drops) tt))
 
@@ -197,7 +225,7 @@ pub record HeaderLimits (h : Header) : Type 0 where
   pub gates-most : h .gate-count ≤ max-gates
   pub arrival-most : h .arrival ≤ max-time
   pub deadline-most : h .deadline ≤ max-time
-  pub probability-most : h .probability ≤ max-probability
+  pub switching-most : h .switching ≤ max-switching (h .edition)
 
 pub header-limits : (h : Header) → T (in-range block h) → HeaderLimits h
 header-limits h t =
@@ -209,7 +237,7 @@ header-limits h t =
     let c = leb n max-gates in
     let d = leb (h .arrival) max-time in
     let e = leb (h .deadline) max-time in
-    let f = leb (h .probability) max-probability in
+    let f = leb (h .switching) (max-switching (h .edition)) in
     let u : T (a && b && c && d && e) = and-left (a && b && c && d && e) f t in
     let v : T (a && b && c && d) = and-left (a && b && c && d) e u in
     let w : T (a && b && c) = and-left (a && b && c) d v in
@@ -221,19 +249,41 @@ header-limits h t =
       gates-most = leb→le n max-gates (and-right (a && b) c w);
       arrival-most = leb→le (h .arrival) max-time (and-right (a && b && c) d v);
       deadline-most = leb→le (h .deadline) max-time (and-right (a && b && c && d) e u);
-      probability-most = leb→le (h .probability) max-probability (and-right (a && b && c && d && e) f t);
+      switching-most = leb→le (h .switching) (max-switching (h .edition)) (and-right (a && b && c && d && e) f t);
     }
+
+pub header-in-range : (h : Header) → HeaderLimits h → T (in-range block h)
+header-in-range h l =
+    let n = h .gate-count in
+    let a = leb 1 (h .edition) in
+    let b = leb (h .edition) max-edition in
+    let c = leb 1 n in
+    let d = leb n max-gates in
+    let e = leb (h .arrival) max-time in
+    let f = leb (h .deadline) max-time in
+    let g = leb (h .switching) (max-switching (h .edition)) in
+    and-both (a && b && c && d && e && f) g
+    (and-both (a && b && c && d && e) f
+    (and-both (a && b && c && d) e
+    (and-both (a && b && c) d
+    (and-both (a && b) c
+    (and-both a b (le→leb 1 (h .edition) (l .edition-least)) (le→leb (h .edition) max-edition (l .edition-most)))
+    (le→leb 1 n (l .some-gate)))
+    (le→leb n max-gates (l .gates-most)))
+    (le→leb (h .arrival) max-time (l .arrival-most)))
+    (le→leb (h .deadline) max-time (l .deadline-most)))
+    (le→leb (h .switching) (max-switching (h .edition)) (l .switching-most))
 
 pub limited-block : {N : Netlist} → Limited N → BlockLimits (block-of N)
 limited-block {N} l =
     let h = header-limits (header-of N) (l .header) in
-    let m : gate-count (block-of N) ≡ length (N .gates) = length-map (N .gates) gate-of in
+    let m : gate-count (block-of N) ≡ length (N .gates) = length-map (N .gates) (gate-of (N .edition)) in
     record {
       some-gate = rw m (h .some-gate);
       gates-most = rw m (h .gates-most);
       arrival-most = h .arrival-most;
       deadline-most = h .deadline-most;
-      activity-most = activity-at-most (N .probability);
+      activity-most = switching-range (N .edition) (N .switching) (h .switching-most) .1;
       gate-limits = gate-limits l;
       wires-most = l .wire-count;
       wire-limits = λ (i : ℕ) (y : Wire) (h : i < length (N .wires)). rw m (wire-limits-at l i y h);

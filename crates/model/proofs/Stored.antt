@@ -10,8 +10,7 @@ use lib.Seq.{getD-set-same, getD-set-other}
 use Rattle.lists.specs.Over.{build}
 use Rattle.lists.proofs.Over.{build-same}
 use Rattle.model.specs.Limits.{max-steps}
-use Rattle.model.specs.Block.{Step, Wire}
-use Rattle.model.specs.Netlist.{DrawnGate, gate-of}
+use Rattle.model.specs.Block.{Step, Gate, Wire}
 use Rattle.model.specs.Arrays.{step-place, wire-at, wires-in, step-at, gate-at, gates-in}
 
 -- one more element, those before it being the same
@@ -89,8 +88,8 @@ module _ (n : ℕ) (delays activities counts step-widths drops delays′ activit
           λ t. record { width = kept .same-widths (step-place g j) m t; drop = kept .same-drops (step-place g j) m t })
 
   -- gate n is stored behind those stored before
-  pub gate-stored : (gs : List DrawnGate) (g : DrawnGate) → gates-in n delays activities counts step-widths drops ≡ map gate-of gs → gate-at delays′ activities′ counts′ step-widths′ drops′ n ≡ gate-of g
-      → gates-in (n + 1) delays′ activities′ counts′ step-widths′ drops′ ≡ map gate-of (gs ++ (g ∷ []))
-  gate-stored gs g e new =
+  pub gate-stored : {A : Type 0} (f : A → Gate) (gs : List A) (g : A) → gates-in n delays activities counts step-widths drops ≡ map f gs → gate-at delays′ activities′ counts′ step-widths′ drops′ n ≡ f g
+      → gates-in (n + 1) delays′ activities′ counts′ step-widths′ drops′ ≡ map f (gs ++ (g ∷ []))
+  gate-stored f gs g e new =
       build-more n (gate-at delays activities counts step-widths drops) (gate-at delays′ activities′ counts′ step-widths′ drops′) e gate-kept new
-      ∙ sym (map-append gate-of gs (g ∷ []))
+      ∙ sym (map-append f gs (g ∷ []))

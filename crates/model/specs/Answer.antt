@@ -163,7 +163,7 @@ AnswersCurve file lent =
     Line lent 10 (Shorter (lent .for-widths) max-pairs)
     (Line lent 10 (Shorter (lent .for-gains) max-pairs) (CurveLines B lent)))
 
--- "There are at most 512 pairs, and no pair's gain is above 63 × 32,768 × 1,000": the pairs of an accepted answer, whose gains are in the slice
+-- "There are at most 512 pairs", and "a pair's gain is now at most 63 × 65,535 × 1,000" (document 02, K3): the pairs of an accepted answer, whose gains are in the slice
 abbrev pub CurveBounds : Curve.CurveAnswer → List ℕ → Type 0
 CurveBounds (Curve.the-variants.Given start at-start pairs) gains = (pairs ≤ max-pairs) × ((i : ℕ) → i < pairs → getD gains i 0 ≤ max-gain)
 CurveBounds (Curve.the-variants.Refused refusal) gains = Unit {0}

@@ -1,5 +1,5 @@
 -- A block: gates, wires, arrival and deadline, with the activity of each net (document 01, "The block file" and "Gains, paths, building up").
--- Everything but the block file's own definitions (File) speaks of blocks alone: no limit, no byte and no probability appears in it.
+-- Everything but the block file's own definitions (Edition, Netlist, File) speaks of blocks alone: no limit, no byte and no probability appears in it.
 use mathlib.Core.List.{List, [], List·Memᴰ}
 use Prim.Native.Nat.{ℕ, _-_}
 use lib.ListN.{length, getD}

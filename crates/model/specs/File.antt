@@ -1,5 +1,5 @@
--- The block file (document 01, "The block file", "Refusals and their places"; document 02, K2: edition 2): `decode` from bytes to a netlist or a refusal with its place, and `encode`.
--- Lengths and ranges of each tag stand here and nowhere else, and so does what differs by edition.
+-- The block file (document 01, "The block file", "Refusals and their places"; document 02, K2 and K3: editions 2 and 3): `decode` from bytes to a netlist or a refusal with its place, and `encode`.
+-- Lengths and ranges of each tag stand here and nowhere else, but for what differs by edition (Edition).
 use mathlib.Core.List.{List, [], _∷_, _++_, flatMap}
 use mathlib.Core.Bool.{Bool, true, false, cond, not, _&&_, _||_}
 use Prim.Native.Nat.{ℕ, zero, suc, _+_, _*_, _%_, _≤_}
@@ -7,8 +7,9 @@ use lib.Dec.{T, leb, ltb, eqb}
 use lib.ListN.{length, getD, drop}
 use Rattle.model.specs.declared.Field.{Field}
 use Rattle.model.specs.declared.Field.the-variants.{NoHeader, NoBody, Whole}
-use Rattle.model.specs.Limits.{max-edition, max-gates, max-wires, max-steps, max-probability, max-delay, max-wire-delay, max-width, max-drop, max-time}
+use Rattle.model.specs.Limits.{max-edition, max-gates, max-wires, max-steps, max-delay, max-wire-delay, max-width, max-drop, max-time}
 use Rattle.model.specs.Block.{Step, Wire, Block}
+use Rattle.model.specs.Edition.{wire-bytes, delay-in, delay-bytes, delay-fits, max-switching}
 use Rattle.model.specs.Netlist.{DrawnGate, Netlist, block-of}
 use Rattle.model.specs.Field.{byte-values, number, two-bytes, field, field-at, body-at, body-to}
 
@@ -18,27 +19,7 @@ pub record Header : Type 0 where
   pub gate-count : ℕ
   pub arrival : ℕ
   pub deadline : ℕ
-  pub probability : ℕ
-
--- WHAT DIFFERS BY EDITION. "Edition 2 of the block file gives each wire a third number, its delay, two bytes"; "edition 1 wires have delay 0" (document 02, K2).
-abbrev pub has-wire-delays : ℕ → Bool
-has-wire-delays edition = leb 2 edition
-
--- bytes of a wire's body: its two gates and, where it has one, its delay
-abbrev pub wire-bytes : ℕ → ℕ
-wire-bytes edition = cond (has-wire-delays edition) 4 2
-
--- the delay of a wire by its body
-abbrev pub delay-in : ℕ → List ℕ → ℕ
-delay-in edition b = cond (has-wire-delays edition) (number b 2) 0
-
--- the bytes that a wire's delay takes in its body
-abbrev pub delay-bytes : ℕ → ℕ → List ℕ
-delay-bytes edition d = cond (has-wire-delays edition) (two-bytes d) []
-
--- a file of the edition can give the wire its delay
-abbrev pub delay-fits : ℕ → Wire → Bool
-delay-fits edition w = has-wire-delays edition || eqb (w .delay) 0
+  pub switching : ℕ
 
 -- What is due at a place of the file: the block field; in a file of this edition a gate field; or there, in a block of so many gates, a wire field after the wires that stood before.
 pub data Due : Type 0 where
@@ -79,9 +60,9 @@ says block b =
       gate-count = getD b 1 0;
       arrival = number b 2;
       deadline = number b 4;
-      probability = number b 6;
+      switching = number b 6;
     }
-says (gate edition) b = record { delay = number b 0; probability = number b 2; steps = steps-in (drop 4 b) }
+says (gate edition) b = record { delay = number b 0; switching = number b 2; steps = steps-in (drop 4 b) }
 says (wire edition n seen) b = record { source = getD b 0 0; target = getD b 1 0; delay = delay-in edition b }
 
 -- the test passes at every element
@@ -107,8 +88,8 @@ in-range block h =
     && leb (h .gate-count) max-gates
     && leb (h .arrival) max-time
     && leb (h .deadline) max-time
-    && leb (h .probability) max-probability
-in-range (gate edition) g = leb (g .delay) max-delay && leb (g .probability) max-probability && every step-in-range (g .steps)
+    && leb (h .switching) (max-switching (h .edition))
+in-range (gate edition) g = leb (g .delay) max-delay && leb (g .switching) (max-switching edition) && every step-in-range (g .steps)
 in-range (wire edition n seen) w = ltb (w .source) n && ltb (w .target) n && leb (w .delay) max-wire-delay
 
 -- "Drops fall strictly": the first is below the bound, each other below the one before
@@ -197,7 +178,7 @@ netlist h gs ws =
       edition = h .edition;
       arrival = h .arrival;
       deadline = h .deadline;
-      probability = h .probability;
+      switching = h .switching;
       gates = gs;
       wires = ws;
     }
@@ -222,19 +203,19 @@ header-of N =
       gate-count = length (N .gates);
       arrival = N .arrival;
       deadline = N .deadline;
-      probability = N .probability;
+      switching = N .switching;
     }
 
 -- the body of a block field, of a gate field, and of a wire field in an edition
 abbrev pub header-body : Header → List ℕ
 header-body h =
-    h .edition ∷ h .gate-count ∷ two-bytes (h .arrival) ++ two-bytes (h .deadline) ++ two-bytes (h .probability)
+    h .edition ∷ h .gate-count ∷ two-bytes (h .arrival) ++ two-bytes (h .deadline) ++ two-bytes (h .switching)
 
 abbrev pub step-bytes : Step → List ℕ
 step-bytes s = two-bytes (s .width) ++ two-bytes (s .drop)
 
 abbrev pub gate-body : DrawnGate → List ℕ
-gate-body g = two-bytes (g .delay) ++ two-bytes (g .probability) ++ flatMap step-bytes (g .steps)
+gate-body g = two-bytes (g .delay) ++ two-bytes (g .switching) ++ flatMap step-bytes (g .steps)
 
 abbrev pub wire-body : ℕ → Wire → List ℕ
 wire-body edition w = w .source ∷ w .target ∷ delay-bytes edition (w .delay)

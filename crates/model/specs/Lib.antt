@@ -10,8 +10,9 @@ pub mod Curve
 pub mod Part
 pub mod Remainder
 pub mod Slack
-pub mod Netlist
 pub mod Field
+pub mod Edition
+pub mod Netlist
 pub mod File
 pub mod Refusal
 pub mod Answer

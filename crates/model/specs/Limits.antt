@@ -1,9 +1,9 @@
--- The limits of a block file (document 01, "The block file"; document 02, K2), each by its name. A file is held to them by `decode` and `Limited` (File) alone; elsewhere they say how much room an array has and how large a number can be.
+-- The limits of a block file (document 01, "The block file"; document 02, K2 and K3), each by its name. A file is held to them by `decode` and `Limited` (File) alone; elsewhere they say how much room an array has and how large a number can be.
 use Prim.Native.Nat.{ℕ, _*_, _-_}
 
 -- editions of the block file are numbered from 1 to this
 abbrev pub max-edition : ℕ
-max-edition = 2
+max-edition = 3
 
 -- gates of a block, at most
 abbrev pub max-gates : ℕ
@@ -49,10 +49,10 @@ max-bytes = 8192
 abbrev pub max-pairs : ℕ
 max-pairs = max-gates * max-steps
 
--- the greatest activity of a net, that of p = 128
+-- activity of a net, transitions in 65,536 clock cycles, at most
 abbrev pub max-activity : ℕ
-max-activity = 32768
+max-activity = 65535
 
--- gain of a pair, at most ("no pair's gain is above 63 × 32,768 × 1,000")
+-- gain of a pair, at most ("a pair's gain is now at most 63 × 65,535 × 1,000", document 02, K3)
 abbrev pub max-gain : ℕ
 max-gain = (max-gates - 1) * max-activity * max-drop

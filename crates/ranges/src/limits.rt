@@ -5,9 +5,11 @@ ghost use mathlib.Core.Bool.{true};
 ghost use mathlib.Core.List.{[]};
 ghost use Prim.Native.Nat.{ℕ, _+_, _*_, _≤_, _%_};
 ghost use lib.ListN.{length};
-ghost use Rattle.model.specs.File.{block, gate, wire, tag-of, wire-bytes, length-fits, says, in-range, step-in-range, every, steps-in, falls};
+ghost use Rattle.model.specs.Edition.{wire-bytes};
+ghost use Rattle.model.specs.File.{block, gate, wire, tag-of, length-fits, says, in-range, step-in-range, every, steps-in, falls};
 ghost use Rattle.ranges.specs.Kinds.{kind, step-of};
 use crate::edition::MAX_EDITION;
+use crate::edition::max_switching;
 use crate::edition::wire_bytes;
 use crate::edition::wire_delay;
 use fields::field::number_at;
@@ -18,9 +20,7 @@ use model::limits::MAX_STEPS;
 const GATES: u8 = MAX_GATES as u8;
 
 const BLOCK_BYTES: usize = 8;
-// A probability is in 256ths.
-const MAX_PROBABILITY: u32 = 256;
-// A gate: delay and probability, then as many steps as there are, each of a width and a drop.
+// A gate: delay and the number for its output's switching, then as many steps as there are, each of a width and a drop.
 const MAX_DELAY: u32 = 4095;
 
 const MAX_WIDTH: u32 = 4095;
@@ -92,7 +92,7 @@ pub fn block_in_range(body: &[u8]) -> bool
     if GATES < body[1] {
         return false;
     }
-    number_at(body, 6) <= MAX_PROBABILITY
+    number_at(body, 6) <= max_switching(body[0])
 }
 
 // Whether step j has a width and a drop in their ranges.
@@ -130,15 +130,15 @@ pub fn steps_in_range(steps: &[u8]) -> bool
     true
 }
 
-// Whether every number of a gate's body is in its range, in any edition.
-pub fn gate_in_range(body: &[u8]) -> bool
-    requires { ⌜ ((edition : ℕ) × (length-fits (gate edition) (length (now body)) ≡ true)) ⌝ }
-    ensures { λ r. ⌜ ((edition : ℕ) → r ≡ in-range (gate edition) (says (gate edition) (now (body .entry)))) ⌝ }
+// Whether every number of a gate's body is in its range.
+pub fn gate_in_range(body: &[u8], edition: u8) -> bool
+    requires { ⌜ length-fits (gate edition) (length (now body)) ≡ true ⌝ }
+    ensures { λ r. ⌜ r ≡ in-range (gate edition) (says (gate edition) (now (body .entry))) ⌝ }
 {
     if MAX_DELAY < number_at(body, 0) {
         return false;
     }
-    if MAX_PROBABILITY < number_at(body, 2) {
+    if max_switching(edition) < number_at(body, 2) {
         return false;
     }
     steps_in_range(&body[GATE_BYTES..])

@@ -38,7 +38,7 @@ module _ {B : Block} {n : ℕ} {A : TreeArrays} (h : TreeHeld B n A) where
   pairs-short =
       omega (arith, pairs-few B (block-tree B (h .fits)) (is-tree h) (descending B (h .limits)), steps-are h, steps-few h)
 
-  -- "no pair's gain is above 63 × 32,768 × 1,000"
+  -- "a pair's gain is now at most 63 × 65,535 × 1,000"
   pub gains-few : (p : Pair) → List·Memᴰ p (pairs-of B (block-tree B (h .fits))) → p .gain ≤ max-gain
   gains-few p m =
       let few : max 1 (gate-count B - 1) ≤ max-gates - 1 = omega (arith, h .limits .gates-most) in

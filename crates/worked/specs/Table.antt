@@ -1,5 +1,5 @@
--- The cases of document 01, "Blocks tried by hand", that are marked P, as rows of one table in the document's order; behind them D with wires that take time (document 02, K2), worked out by hand.
--- Every p is 128, arrival is 0. Where the document leaves them free, chosen here: delay 1 for the gates of the bridge, the triangle and 001's chain, no steps for those of the bridge and the triangle; deadline 9 for these and for 001's parallel gates (in a curve it plays no part).
+-- The cases of document 01, "Blocks tried by hand", that are marked P, as rows of one table in the document's order; behind them D with wires that take time (document 02, K2) and blocks with measured activities (K3), worked out by hand.
+-- Every p is 128, but in the blocks of K3; arrival is 0. Where the document leaves them free, chosen here: delay 1 for the gates of the bridge, the triangle and 001's chain, no steps for those of the bridge and the triangle; deadline 9 for these and for 001's parallel gates (in a curve it plays no part).
 -- Lent slices are filled with 9 and, but for the empty file, one element longer than needed: a row shows that what lies beyond is unchanged.
 use mathlib.Core.List.{List, [], _∷_, _++_}
 use Prim.Native.Nat.{ℕ, _*_}
@@ -19,8 +19,12 @@ U = 32768
 abbrev step : ℕ → ℕ → Step
 step w d = record { width = w; drop = d }
 
+-- a gate of delay d whose net has the number v in the file, and one with p = 128
+abbrev gate-with : ℕ → ℕ → List Step → DrawnGate
+gate-with v d ss = record { delay = d; switching = v; steps = ss }
+
 abbrev gate : ℕ → List Step → DrawnGate
-gate d ss = record { delay = d; probability = 128; steps = ss }
+gate = gate-with 128
 
 abbrev to : ℕ → ℕ → Wire
 to a b = record { source = a; target = b; delay = 0 }
@@ -29,28 +33,33 @@ to a b = record { source = a; target = b; delay = 0 }
 abbrev to-in : ℕ → ℕ → ℕ → Wire
 to-in a b ticks = record { source = a; target = b; delay = ticks }
 
--- the file of a block with these gates and wires, in an edition and in edition 1
-abbrev file-in : ℕ → ℕ → List DrawnGate → List Wire → List ℕ
-file-in edition deadline gs ws =
-    encode (record { edition = edition; arrival = 0; deadline = deadline; probability = 128; gates = gs; wires = ws })
+-- the file of a block with these gates and wires, in an edition with the number v for the input, and in edition 1 with p = 128
+abbrev file-in : ℕ → ℕ → ℕ → List DrawnGate → List Wire → List ℕ
+file-in edition v deadline gs ws =
+    encode (record { edition = edition; arrival = 0; deadline = deadline; switching = v; gates = gs; wires = ws })
 
 abbrev file : ℕ → List DrawnGate → List Wire → List ℕ
-file = file-in 1
+file = file-in 1 128
 
 -- the four wires of a diamond
 abbrev diamond-wires : List Wire
 diamond-wires = to 0 1 ∷ to 0 2 ∷ to 1 3 ∷ to 2 3 ∷ []
 
--- "D: delays 2, 3, 1, 2; steps none; (2,5),(3,2); (4,4); (5,6); wires 0-1, 0-2, 1-3, 2-3"
-abbrev diamond-gates : List DrawnGate
-diamond-gates = gate 2 [] ∷ gate 3 (step 2 5 ∷ step 3 2 ∷ []) ∷ gate 1 (step 4 4 ∷ []) ∷ gate 2 (step 5 6 ∷ []) ∷ []
+-- "D: delays 2, 3, 1, 2; steps none; (2,5),(3,2); (4,4); (5,6); wires 0-1, 0-2, 1-3, 2-3", with the numbers of its nets
+abbrev diamond-gates : ℕ → ℕ → ℕ → ℕ → List DrawnGate
+diamond-gates v w x y =
+    gate-with v 2 [] ∷ gate-with w 3 (step 2 5 ∷ step 3 2 ∷ []) ∷ gate-with x 1 (step 4 4 ∷ []) ∷ gate-with y 2 (step 5 6 ∷ []) ∷ []
+
+-- D in an edition with the number v for the input and for each net, and in edition 1 with p = 128
+abbrev diamond-in : ℕ → ℕ → ℕ → List ℕ
+diamond-in edition v deadline = file-in edition v deadline (diamond-gates v v v v) diamond-wires
 
 abbrev diamond : ℕ → List ℕ
-diamond deadline = file deadline diamond-gates diamond-wires
+diamond = diamond-in 1 128
 
 -- D in edition 2 with deadline 12, its wires in the same order with these delays
 abbrev delayed-diamond : ℕ → ℕ → ℕ → ℕ → List ℕ
-delayed-diamond a b c d = file-in 2 12 diamond-gates (to-in 0 1 a ∷ to-in 0 2 b ∷ to-in 1 3 c ∷ to-in 2 3 d ∷ [])
+delayed-diamond a b c d = file-in 2 128 12 (diamond-gates 128 128 128 128) (to-in 0 1 a ∷ to-in 0 2 b ∷ to-in 1 3 c ∷ to-in 2 3 d ∷ [])
 
 -- "one gate, delay 5, step (2,3), deadline 8"
 abbrev one-gate : List ℕ
@@ -79,12 +88,14 @@ abbrev second-steps : List Step
 second-steps = step 2 24 ∷ step 4 23 ∷ []
 
 -- "001's chain, steps (3,28),(5,24),(3,21); (2,24),(4,23); (9,26)"
-abbrev chain-of-three : List ℕ
-chain-of-three = file 9 (gate 1 first-steps ∷ gate 1 second-steps ∷ gate 1 (step 9 26 ∷ []) ∷ []) (to 0 1 ∷ to 1 2 ∷ [])
+abbrev chain-of-three : ℕ → ℕ → List ℕ
+chain-of-three edition v =
+    file-in edition v 9 (gate-with v 1 first-steps ∷ gate-with v 1 second-steps ∷ gate-with v 1 (step 9 26 ∷ []) ∷ []) (to 0 1 ∷ to 1 2 ∷ [])
 
 -- "001's parallel gates, delays 3 and 2, the first two lists above, between stepless gates of delay 0"
-abbrev parallel-gates : List ℕ
-parallel-gates = file 9 (gate 0 [] ∷ gate 3 first-steps ∷ gate 2 second-steps ∷ gate 0 [] ∷ []) diamond-wires
+abbrev parallel-gates : ℕ → ℕ → List ℕ
+parallel-gates edition v =
+    file-in edition v 9 (gate-with v 0 [] ∷ gate-with v 3 first-steps ∷ gate-with v 2 second-steps ∷ gate-with v 0 [] ∷ []) diamond-wires
 
 -- a slice of so many nines
 abbrev nines : ℕ → List ℕ
@@ -129,12 +140,12 @@ table =
     ∷ record { call = find-curve triangle (nine-slices 513); expected = gives (3 ∷ 0 ∷ 0 ∷ []) (nine-slices 513) }
     -- "001's chain: pairs (3,28),(9,26),(7,24),(4,23),(3,21), gains in U"
     ∷ record {
-      call = find-curve chain-of-three (nine-slices 513);
+      call = find-curve (chain-of-three 1 128) (nine-slices 513);
       expected = gives (3 ∷ 0 ∷ 5 ∷ []) (pairs (3 ∷ 9 ∷ 7 ∷ 4 ∷ 3 ∷ []) (28 * U ∷ 26 * U ∷ 24 * U ∷ 23 * U ∷ 21 * U ∷ []));
     }
     -- "001's parallel gates: start 3, 24U at start, pairs (1,52),(2,51),(2,47),(3,24),(3,21)"
     ∷ record {
-      call = find-curve parallel-gates (nine-slices 513);
+      call = find-curve (parallel-gates 1 128) (nine-slices 513);
       expected = gives (3 ∷ 24 * U ∷ 5 ∷ []) (pairs (1 ∷ 2 ∷ 2 ∷ 3 ∷ 3 ∷ []) (52 * U ∷ 51 * U ∷ 47 * U ∷ 24 * U ∷ 21 * U ∷ []));
     }
     -- K2: wire delays 1, 0, 0 and 2. The path over gate 1 lasts 8 ticks and the one over gate 2 lasts 7, so that gate 2 has one tick more
@@ -151,4 +162,20 @@ table =
     ∷ record { call = find-best (delayed-diamond 1 0 0 2) (nines 5); expected = gives (52 * U ∷ 4 ∷ []) (0 ∷ 0 ∷ 1 ∷ 4 ∷ 9 ∷ []) }
     -- K2: wire delay 4 on the way to gate 2, whose path is now the longer, 9 ticks to 7
     ∷ record { call = find-best (delayed-diamond 0 4 0 0) (nines 5); expected = gives (46 * U ∷ 4 ∷ []) (0 ∷ 2 ∷ 0 ∷ 3 ∷ 9 ∷ []) }
+    -- K3, "compared with 001 by these counts": 001's chain and parallel gates, every activity 1. The gains are the paper's own numbers
+    ∷ record {
+      call = find-curve (chain-of-three 3 1) (nine-slices 513);
+      expected = gives (3 ∷ 0 ∷ 5 ∷ []) (pairs (3 ∷ 9 ∷ 7 ∷ 4 ∷ 3 ∷ []) (28 ∷ 26 ∷ 24 ∷ 23 ∷ 21 ∷ []));
+    }
+    ∷ record {
+      call = find-curve (parallel-gates 3 1) (nine-slices 513);
+      expected = gives (3 ∷ 24 ∷ 5 ∷ []) (pairs (1 ∷ 2 ∷ 2 ∷ 3 ∷ 3 ∷ []) (52 ∷ 51 ∷ 47 ∷ 24 ∷ 21 ∷ []));
+    }
+    -- K3: input activity 1, nets 3, 5, 7 and 11. A tick saves 3 × 4 at gate 2 and (5 + 7) × 6 at gate 3
+    ∷ record { call = find-best (file-in 3 1 10 (diamond-gates 3 5 7 11) diamond-wires) (nines 5); expected = gives (240 ∷ 4 ∷ []) (0 ∷ 0 ∷ 2 ∷ 3 ∷ 9 ∷ []) }
+    -- K3: every activity 65,535, the greatest
+    ∷ record { call = find-best (diamond-in 3 65535 14) (nines 5); expected = gives (5636010 ∷ 4 ∷ []) (0 ∷ 2 ∷ 4 ∷ 5 ∷ 9 ∷ []) }
+    -- K3: 257 is an activity, and no probability
+    ∷ record { call = find-best (diamond-in 3 257 10) (nines 5); expected = gives (44 * 257 ∷ 4 ∷ []) (0 ∷ 0 ∷ 2 ∷ 3 ∷ 9 ∷ []) }
+    ∷ record { call = find-best (diamond-in 2 257 10) (nines 5); expected = refuses 4 0 (nines 5) }
     ∷ []

@@ -1,12 +1,13 @@
 //! benchmark: the whole call from file bytes to increases, library against list merging in plain Rust, on the same blocks in
-//! the same run, in edition 1 and, with wire delays, in edition 2. Each time is the least of several rounds; neither side's
-//! buffers are cleared between calls.
+//! the same run, in edition 1, in edition 2 with wire delays, and in edition 3 with the activities of the same. Each time is
+//! the least of several rounds; neither side's buffers are cleared between calls.
 
 #[path = "../ffi.rs"]
 mod ffi;
 
 use reference::block::{encode, MAX_GATES};
-use reference::generate::{measured_block, measured_with_delays};
+use reference::generate::editions::in_edition_3;
+use reference::generate::{benchmark_block, benchmark_with_delays};
 use reference::merging;
 use reference::random::Random;
 use reference::shapes::{wires, Shape, ALL_SHAPES};
@@ -41,14 +42,18 @@ fn average(files: &[Vec<u8>], mut call: impl FnMut(&[u8])) -> f64 {
     begin.elapsed().as_secs_f64() * 1e6 / files.len() as f64
 }
 
-/// Block files of one shape; those of edition 2 are those of edition 1 with wire delays and another deadline.
+/// Block files of one shape; those of edition 2 are those of edition 1 with wire delays and another deadline, those of edition
+/// 3 say the same as those of edition 2.
 fn files(edition: u8, shape: Shape, gates: usize, steps: usize) -> Vec<Vec<u8>> {
     let seed = (100 * gates + steps) as u64;
     let (random, delays) = (&mut Random::from_seed(seed), &mut Random::from_seed(seed + 1));
     let mut file = || {
         let wires = wires(random, shape, gates);
-        let block = measured_block(random, gates, wires, steps);
-        encode(&if edition == 1 { block } else { measured_with_delays(delays, block, MOST_WIRE_DELAY) })
+        let mut block = benchmark_block(random, gates, wires, steps);
+        if edition >= 2 {
+            block = benchmark_with_delays(delays, block, MOST_WIRE_DELAY);
+        }
+        encode(&if edition >= 3 { in_edition_3(block) } else { block })
     };
     (0..BLOCKS).map(|_| file()).collect()
 }
@@ -105,6 +110,8 @@ fn ratios() {
     print_ratios(&cells);
     println!("the same blocks in edition 2 with wire delays up to {MOST_WIRE_DELAY}:");
     print_ratios(&measured(2));
+    println!("the same blocks in edition 3 with the activities that their probabilities yield:");
+    print_ratios(&measured(3));
 }
 
 fn growth() {

@@ -1,4 +1,4 @@
-//! compare [FILES [SEED]]: the layout editor's call against the reference, on random files of both editions, valid and damaged.
+//! compare [FILES [SEED]]: the layout editor's call against the reference, on random files of every edition, valid and damaged.
 //! File and lent slice each end before a page that may not be touched, and the file's pages are closed for writing.
 
 #[path = "../ffi.rs"]
@@ -36,9 +36,9 @@ fn run(files: usize, seed: u64) {
                 compared.files
             );
             println!(
-                "compare: seed {seed}: of the second run's random files {}, and {} with wire delays were sized",
+                "compare: seed {seed}: of the second run's random files {}; of those sized {}",
                 elevens(&compared.places),
-                compared.delayed
+                compared.sized
             );
         }
         Err(difference) => {

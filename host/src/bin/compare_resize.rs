@@ -1,8 +1,10 @@
 //! compare-resize PROGRAM [FILES [SEED]]: what the printing program writes against the reference's printout.
 
-use reference::block::encode;
-use reference::compare::{elevens, is_delayed};
-use reference::generate::{compared_block, largest_file, most_wires};
+use reference::block::{decode, encode};
+use reference::compare::{complete, elevens};
+use reference::generate::compared_block;
+use reference::generate::editions::{in_edition_3, Counted};
+use reference::generate::limits::{largest_file, largest_measured_file, most_wires};
 use reference::printout::{printout, MAX_BYTES};
 use reference::random::Random;
 use reference::text::shown;
@@ -67,7 +69,8 @@ fn check_closed_output(program: &str) {
 /// Inputs about as long as what decides, and much longer; beyond it no byte counts.
 fn long_inputs() -> Vec<Vec<u8>> {
     let (d, delayed) = (encode(&worked::diamond(10)), encode(&worked::delayed_diamond([1, 0, 0, 2])));
-    let files = [encode(&most_wires()), largest_file(), d, delayed];
+    let measured = encode(&in_edition_3(worked::diamond(10)));
+    let files = [encode(&most_wires()), largest_file(), largest_measured_file(), d, delayed, measured];
     let mut inputs = Vec::new();
     for length in [MAX_BYTES - 1, MAX_BYTES, MAX_BYTES + 1, 100_000] {
         for file in &files {
@@ -80,7 +83,7 @@ fn long_inputs() -> Vec<Vec<u8>> {
     inputs
 }
 
-/// Random block files of either edition, every fourth one damaged.
+/// Random block files of any edition, every fourth one damaged.
 fn random_inputs(random: &mut Random, files: u64) -> Vec<Vec<u8>> {
     let mut input = || {
         let file = encode(&compared_block(random, 64));
@@ -107,19 +110,18 @@ fn place_of_11(printout: &str) -> Option<u32> {
     printout.strip_prefix("refused 11 ")?.trim_end().parse().ok()
 }
 
-/// Compares random files; says which there were. It fails if none got 11, or none that was sized has wire delays.
+/// Compares random files; says which there were. It fails if they are not complete.
 fn compare_random(program: &str, files: &[Vec<u8>]) -> String {
     let printouts: Vec<String> = files.iter().map(|input| compare(program, input)).collect();
     let places: Vec<u32> = printouts.iter().filter_map(|printout| place_of_11(printout)).collect();
-    let given = files.iter().zip(&printouts).filter(|(_, printout)| printout.starts_with("gates"));
-    let delayed = given.filter(|(input, _)| is_delayed(input)).count();
-    if places.is_empty() {
-        fail("no random file got 11".to_string());
+    let mut sized = Counted::default();
+    for (input, _) in files.iter().zip(&printouts).filter(|(_, printout)| printout.starts_with("gates")) {
+        sized.count(&decode(input).expect("a block"));
     }
-    if delayed == 0 {
-        fail("no random block with a wire delay above 0 was sized".to_string());
+    if let Err(missing) = complete(&places, &sized) {
+        fail(missing);
     }
-    format!("{}, and {delayed} with wire delays were sized", elevens(&places))
+    format!("{}; of those sized {sized}", elevens(&places))
 }
 
 fn main() {

@@ -4,7 +4,7 @@
 
 use reference::cases::{all, places_of_11, search_agrees, written};
 use reference::compare::elevens;
-use reference::generate::largest_file;
+use reference::generate::limits::largest_file;
 use reference::printout::printout;
 use std::path::Path;
 use std::process::exit;

@@ -4,7 +4,8 @@ use super::{
     accepted, and, bridges, chain, d, gate, high_bridges, in_series, plain, refused, replaced, with, Boundary,
 };
 use crate::block::{decode, encode, Block, Gate};
-use crate::generate::{delay_wires, largest_file};
+use crate::generate::editions::delay_wires;
+use crate::generate::limits::largest_file;
 use crate::worked::delayed_diamond;
 
 /// Diamond D of edition 2, wire delays 1, 0, 0 and 2, deadline 12: fields up to the gates as in D, then wires at 55, 62, 69
@@ -30,25 +31,25 @@ fn delayed(mut block: Block, delays: &[u32]) -> Block {
 }
 
 /// A chain of plain gates with these wire delays.
-fn delayed_chain(delays: &[u32]) -> Block {
+pub fn delayed_chain(delays: &[u32]) -> Block {
     let gates = delays.len() + 1;
     delayed(plain(gates, &in_series(gates)), delays)
 }
 
 fn editions() -> Vec<Boundary> {
     let mut odd_wires = with2(56, &[0, 9]);
-    odd_wires[3] = 3;
+    odd_wires[3] = 4;
     vec![
         accepted("edition 2", d2()),
         refused("edition 0 with wires of 4 bytes", with2(3, &[0]), 4, 0),
         refused("edition 1 with wires of 4 bytes", with2(3, &[1]), 3, 55),
-        refused("edition 3 with wires of 4 bytes", with2(3, &[3]), 4, 0),
+        refused("edition 4 with wires of 4 bytes", with2(3, &[4]), 4, 0),
         refused("edition 255 with wires of 4 bytes", with2(3, &[255]), 4, 0),
-        refused("edition 3 with wires of 2 bytes", with(3, &[3]), 4, 0),
+        refused("edition 4 with wires of 2 bytes", with(3, &[4]), 4, 0),
         refused("edition 255 with wires of 2 bytes", with(3, &[255]), 4, 0),
-        refused("edition 3 with a wire of 9 bytes", odd_wires, 4, 0),
+        refused("edition 4 with a wire of 9 bytes", odd_wires, 4, 0),
         accepted("a lone gate in edition 2", replaced(chain(1), 3, &[2])),
-        refused("a lone gate in edition 3", replaced(chain(1), 3, &[3]), 4, 0),
+        refused("a lone gate in edition 4", replaced(chain(1), 3, &[4]), 4, 0),
         refused("edition 2 without a wire", cut2(55), 9, 0),
         refused("edition 2 and 65 gates", replaced(chain(65), 3, &[2]), 4, 0),
         refused("a wire of 4 bytes among those of edition 1", and(d(), &[3, 0, 4, 0, 3, 0, 0]), 3, 75),

@@ -1,9 +1,13 @@
 //! Reading a block file into arrays, and the refusals 1 to 9.
 
-use crate::block::{refuse, Refusal, MAX_DELAY, MAX_DROP, MAX_EDITION, MAX_GATES, MAX_PROBABILITY};
+use crate::block::{refuse, Refusal, MAX_DELAY, MAX_DROP, MAX_GATES};
 use crate::block::{MAX_STEPS, MAX_WIDTH, MAX_WIRES, MAX_WIRE_DELAY};
+use crate::edition::{activity, max_switching, wire_length, MAX_EDITION};
 
 pub struct Netlist {
+    edition: u8,
+    /// The greatest number for the switching of a net in that edition.
+    max_switching: u32,
     pub gates: usize,
     pub arrival: u32,
     pub deadline: u32,
@@ -13,7 +17,7 @@ pub struct Netlist {
     /// The steps of gate g are `steps[step_from[g]..step_from[g + 1]]`, each a width and a drop.
     step_from: [u16; MAX_GATES + 1],
     steps: [(u16, u16); MAX_GATES * MAX_STEPS],
-    /// The length of a wire's body: from edition 2 on its delay stands behind its two gates.
+    /// The length of a wire's body: where it is 4, the wire's delay stands behind its two gates.
     wire_length: usize,
     pub wires: usize,
     pub wire: [(u8, u8); MAX_WIRES],
@@ -24,10 +28,6 @@ pub struct Netlist {
 
 fn two_bytes(bytes: &[u8]) -> u32 {
     u32::from(u16::from_be_bytes([bytes[0], bytes[1]]))
-}
-
-fn activity(p: u32) -> u32 {
-    2 * p * (256 - p)
 }
 
 /// The body of the field at `offset`.
@@ -48,21 +48,26 @@ fn body(file: &[u8], offset: usize, tag: u8, lengths: impl Fn(usize) -> bool) ->
 impl Netlist {
     pub fn read(file: &[u8]) -> Result<Netlist, Refusal> {
         let header = body(file, 0, 1, |length| length == 8)?;
-        let (gates, p) = (usize::from(header[1]), two_bytes(&header[6..]));
+        let (gates, switching) = (usize::from(header[1]), two_bytes(&header[6..]));
         let edition = header[0];
-        if edition == 0 || edition > MAX_EDITION || gates == 0 || gates > MAX_GATES || p > MAX_PROBABILITY {
+        if edition == 0 || edition > MAX_EDITION || gates == 0 || gates > MAX_GATES {
+            return refuse(4, 0);
+        }
+        if switching > max_switching(edition) {
             return refuse(4, 0);
         }
         let mut netlist = Netlist {
+            edition,
+            max_switching: max_switching(edition),
             gates,
             arrival: two_bytes(&header[2..]),
             deadline: two_bytes(&header[4..]),
-            input: activity(p),
+            input: activity(edition, switching),
             delay: [0; MAX_GATES],
             activity: [0; MAX_GATES],
             step_from: [0; MAX_GATES + 1],
             steps: [(0, 0); MAX_GATES * MAX_STEPS],
-            wire_length: if edition == 1 { 2 } else { 4 },
+            wire_length: wire_length(edition),
             wires: 0,
             wire: [(0, 0); MAX_WIRES],
             wire_delay: [0; MAX_WIRES],
@@ -80,8 +85,8 @@ impl Netlist {
 
     fn read_gate(&mut self, file: &[u8], offset: usize, gate: usize) -> Result<usize, Refusal> {
         let body = body(file, offset, 2, |length| length % 4 == 0 && (4..=4 + 4 * MAX_STEPS).contains(&length))?;
-        let (delay, p) = (two_bytes(body), two_bytes(&body[2..]));
-        let mut out_of_range = delay > MAX_DELAY || p > MAX_PROBABILITY;
+        let (delay, switching) = (two_bytes(body), two_bytes(&body[2..]));
+        let mut out_of_range = delay > MAX_DELAY || switching > self.max_switching;
         let mut falls = true;
         let mut at = usize::from(self.step_from[gate]);
         let mut before = u32::MAX;
@@ -100,7 +105,7 @@ impl Netlist {
             return refuse(5, offset);
         }
         self.delay[gate] = delay;
-        self.activity[gate] = activity(p);
+        self.activity[gate] = activity(self.edition, switching);
         self.step_from[gate + 1] = at as u16;
         Ok(offset + 3 + body.len())
     }

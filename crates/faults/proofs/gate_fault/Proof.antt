@@ -23,12 +23,12 @@ returns c =
 gate-in-range-requires : tie.Need-gate-in-range-requires
 gate-in-range-requires c κs =
     let start = c .before .before .before in
-    (start .args .edition, shape-fits (gate (start .args .edition)) (start .args .field) (length (start .args .body .now)) (sym (c .before .shape-fault .ensures) ∙ c .if1 .left))
+    shape-fits (gate (start .args .edition)) (start .args .field) (length (start .args .body .now)) (sym (c .before .shape-fault .ensures) ∙ c .if1 .left)
 
 returns-2 : tie.Need-returns-2
 returns-2 c =
     let start = c .before .before .before .before .before in
-    sym (shape-passes (gate (start .args .edition)) (start .args .field) (start .args .body .now) (sym (c .before .before .before .shape-fault .ensures) ∙ c .before .before .if1 .left) ∙ rw (sym (c .before .gate-in-range .ensures (start .args .edition)) ∙ not-true _ (c .if2 .taken)))
+    sym (shape-passes (gate (start .args .edition)) (start .args .field) (start .args .body .now) (sym (c .before .before .before .shape-fault .ensures) ∙ c .before .before .if1 .left) ∙ rw (sym (c .before .gate-in-range .ensures) ∙ not-true _ (c .if2 .taken)))
 
 sub-drops-fall : tie.Need-sub-drops-fall
 sub-drops-fall c =
@@ -53,13 +53,13 @@ returns-3 : tie.Need-returns-3
 returns-3 c =
     let start = c .before .before .before .before .before .before .before .before in
     let f : falls (steps-in (drop 4 (start .args .body .now))) ≡ true = rw (steps-part (start .args .body .now)) at (sym (c .before .drops-fall .ensures) ∙ c .if3 .taken) in
-    sym (shape-passes (gate (start .args .edition)) (start .args .field) (start .args .body .now) (sym (c .before .before .before .before .before .before .shape-fault .ensures) ∙ c .before .before .before .before .before .if1 .left) ∙ rw (sym (c .before .before .before .before .gate-in-range .ensures (start .args .edition)) ∙ not-false _ (c .before .before .before .if2 .left), f))
+    sym (shape-passes (gate (start .args .edition)) (start .args .field) (start .args .body .now) (sym (c .before .before .before .before .before .before .shape-fault .ensures) ∙ c .before .before .before .before .before .if1 .left) ∙ rw (sym (c .before .before .before .before .gate-in-range .ensures) ∙ not-false _ (c .before .before .before .if2 .left), f))
 
 returns-4 : tie.Need-returns-4
 returns-4 c =
     let start = c .before .before .before .before .before .before .before .before in
     let f : falls (steps-in (drop 4 (start .args .body .now))) ≡ false = rw (steps-part (start .args .body .now)) at (sym (c .before .drops-fall .ensures) ∙ c .if3 .left) in
-    sym (shape-passes (gate (start .args .edition)) (start .args .field) (start .args .body .now) (sym (c .before .before .before .before .before .before .shape-fault .ensures) ∙ c .before .before .before .before .before .if1 .left) ∙ rw (sym (c .before .before .before .before .gate-in-range .ensures (start .args .edition)) ∙ not-false _ (c .before .before .before .if2 .left), f))
+    sym (shape-passes (gate (start .args .edition)) (start .args .field) (start .args .body .now) (sym (c .before .before .before .before .before .before .shape-fault .ensures) ∙ c .before .before .before .before .before .if1 .left) ∙ rw (sym (c .before .before .before .before .gate-in-range .ensures) ∙ not-false _ (c .before .before .before .if2 .left), f))
 
 pub gate-fault-spec : {M : Type 1} → statement M
 gate-fault-spec = tie.close (tie.spec shape-fault-requires returns gate-in-range-requires returns-2 sub-drops-fall part-drops-fall-start part-drops-fall-end drops-fall-requires returns-3 returns-4)

@@ -6,7 +6,8 @@ use mathlib.Core.List.{[]}
 use native.Mathlib.Omega.{arith}
 use lib.ListN.{length}
 use borrow.Author.Tests.{eqb-true, not-true, not-false}
-use Rattle.model.specs.File.{wire, wire-bytes, delay-in, says}
+use Rattle.model.specs.Edition.{wire-bytes, delay-in}
+use Rattle.model.specs.File.{wire, says}
 use Rattle.model.proofs.Bodies.{wire-bytes-range}
 use Rattle.ranges.proofs.Pairs.{ends-below}
 use Rattle.faults.proofs.Shapes.{wire-shape, shape-fits, shape-passes, shape-fails}

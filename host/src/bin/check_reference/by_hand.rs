@@ -1,11 +1,12 @@
-//! Answers that were worked out by hand: document 01's, those of blocks with wire delays, and those at the boundaries of the
-//! refusals.
+//! Answers that were worked out by hand: document 01's, those of blocks with wire delays and with measured activities, and
+//! those at the boundaries of the refusals.
 
 use reference::answers;
 use reference::block::{decode, encode, Refusal, MAX_GATES};
 use reference::boundaries::{self, Boundary};
+use reference::generate::limits;
 use reference::worked::{self, Expected, U};
-use reference::{exact, generate, merging, parts, printout, search};
+use reference::{exact, merging, parts, printout, search};
 
 fn refusal<T>(answer: Result<T, Refusal>) -> Option<(u32, u32)> {
     answer.err().map(|r| (r.number, r.place))
@@ -70,12 +71,16 @@ pub fn check_boundaries() -> usize {
     all.len()
 }
 
-/// The limits of a curve are reached: 512 pairs, and a gain of 63 x 32,768 x 1,000.
+/// The limits of a curve are reached: 512 pairs, and a gain of 63 x 32,768 x 1,000 up to edition 2, of 63 x 65,535 x 1,000,
+/// which 32 bits hold, in edition 3.
 pub fn check_limits() {
-    let pairs = exact::curve(&generate::most_pairs()).pairs;
+    let pairs = exact::curve(&limits::most_pairs()).pairs;
     assert_eq!(pairs.len(), 512);
-    let pairs = exact::curve(&generate::largest_gain()).pairs;
+    let pairs = exact::curve(&limits::largest_gain()).pairs;
     assert_eq!(pairs, [(2, 63 * 32_768 * 1_000)]);
+    let pairs = exact::curve(&limits::largest_measured_gain()).pairs;
+    assert_eq!(pairs, [(2, 4_128_705_000)]);
+    assert!(pairs[0].1 == 63 * 65_535 * 1_000 && u32::try_from(pairs[0].1).is_ok());
 }
 
 /// 001's chain with 12, 26 and 27 ticks to spare: ticks beyond the curve's end earn 0.

@@ -4,6 +4,7 @@ mod by_hand;
 mod networks;
 mod sizing;
 
+use reference::edition::MAX_EDITION;
 use reference::random::Random;
 
 fn main() {
@@ -13,22 +14,25 @@ fn main() {
     by_hand::check_limits();
     by_hand::check_counted_off();
     println!("short slices: {} answers", by_hand::check_room());
-    let delayed = networks::check_paths(random);
-    println!("slacks and longest paths against every path: 3000 blocks, {delayed} with wire delays");
+    let counted = networks::check_paths(random);
+    println!("slacks and longest paths against every path: 3000 blocks, {counted}");
     let (yes, no) = networks::check_parts(random);
     println!("reduction against building up: {yes} series-parallel blocks, {no} others");
     let (yes, no) = networks::check_every_network(random);
     println!("the same on every network of up to 5 gates: {yes} series-parallel, {no} others");
     let (yes, no, places) = networks::check_left(random);
     println!("gates left in several orders: {yes} series-parallel blocks, {no} others with {places} different places");
-    let without = networks::check_generator(random, false);
-    println!("generator: {without} blocks, and {} with wire delays", networks::check_generator(random, true));
-    let (delayed, lists, late) = sizing::check_exact(random);
-    println!("flows against every list: 6000 blocks, {delayed} with wire delays, {lists} spares, {late} late blocks");
-    let (accepted, delayed, refused) = sizing::check_merging(random);
-    println!("list merging against flows: {accepted} blocks sized, {delayed} with wire delays, {refused} refused");
-    let (blocks, gates, delayed) = sizing::check_ties(random);
-    println!("order of ties against list merging: {blocks} blocks, {delayed} with wire delays, {gates} gates");
+    for edition in 1..=MAX_EDITION {
+        println!("generator, edition {edition}: {} blocks", networks::check_generator(random, edition));
+    }
+    println!("the generator's measured activities: {} nets", networks::check_activities(random));
+    println!("blocks with probabilities against the same in edition 3: {}", networks::check_twins(random));
+    let (counted, lists, late) = sizing::check_exact(random);
+    println!("flows against every list: 6000 blocks, {counted}, {lists} spares, {late} late blocks");
+    let (accepted, counted, refused) = sizing::check_merging(random);
+    println!("list merging against flows: {accepted} blocks sized, {counted}, {refused} refused");
+    let (blocks, gates, counted) = sizing::check_ties(random);
+    println!("order of ties against list merging: {blocks} blocks, {counted}, {gates} gates");
     println!("curves against best lists: {} blocks", sizing::check_curve(random));
     println!("damaged files: {} read", sizing::check_damage(random));
 }

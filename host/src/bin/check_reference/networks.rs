@@ -1,31 +1,33 @@
 //! Paths, series-parallel networks, and what the generator makes.
 
-use reference::block::{decode, encode, Block, Wire};
-use reference::generate::{self, any_block, has_ties, in_either_edition, Values, Wires};
+use reference::block::{decode, encode, Block, Refusal, Wire, MAX_GATES};
+use reference::edition::{has_wire_delays, is_measured};
+use reference::generate::editions::{in_any_edition, in_edition_3, Counted};
+use reference::generate::{self, any_block, has_ties, Values, Wires};
 use reference::random::Random;
-use reference::{network, parts, search, timing};
+use reference::{merging, network, parts, search, timing};
 use std::collections::HashSet;
 
-/// A block, in either edition, whose lists the exhaustive search can try.
+/// A block, in any edition, whose lists the exhaustive search can try.
 pub fn small_block(random: &mut Random, kind: Wires) -> Block {
     loop {
         let values = random.pick(&[Values::Small, Values::Equal]);
         let gates = 1 + random.below(7);
         let block = generate::block(random, kind, values, gates, 2);
-        let block = in_either_edition(random, block);
+        let block = in_any_edition(random, block);
         if network::check(&block).is_ok() && search::count_of_lists(&block) <= 3_000 {
             return block;
         }
     }
 }
 
-/// Longest path and slacks, carried along the wires, are what the paths say. Returns how many blocks have wire delays.
-pub fn check_paths(random: &mut Random) -> usize {
-    let mut delayed = 0;
+/// Longest path and slacks, carried along the wires, are what the paths say.
+pub fn check_paths(random: &mut Random) -> Counted {
+    let mut counted = Counted::default();
     for _ in 0..3_000 {
         let kind = random.pick(&[Wires::SeriesParallel, Wires::General]);
         let block = small_block(random, kind);
-        delayed += usize::from(block.is_delayed());
+        counted.count(&block);
         let delay = |path: &[usize]| timing::path_delay(&block, path) as i64;
         let paths = timing::all_paths(&block);
         assert_eq!(paths.iter().map(|p| delay(p)).max(), Some(timing::start(&block) as i64));
@@ -35,8 +37,8 @@ pub fn check_paths(random: &mut Random) -> usize {
             assert_eq!(*slack, i64::from(block.deadline) - i64::from(block.arrival) - longest);
         }
     }
-    assert!(delayed > 500);
-    delayed
+    assert!(counted.delayed > 500 && counted.measured > 500, "{counted}");
+    counted
 }
 
 /// The reduction decides as building up does, and an inner gate is left where both say no; both kinds occur.
@@ -46,7 +48,7 @@ pub fn check_parts(random: &mut Random) -> (usize, usize) {
         let kind = random.pick(&[Wires::SeriesParallel, Wires::Wide, Wires::Nearly, Wires::Nearly, Wires::General]);
         let gates = 1 + random.below(7);
         let block = generate::block(random, kind, Values::Small, gates, 0);
-        let block = in_either_edition(random, block);
+        let block = in_any_edition(random, block);
         if network::check(&block).is_err() || block.wires.len() > 11 {
             continue;
         }
@@ -110,7 +112,7 @@ pub fn check_left(random: &mut Random) -> (usize, usize, usize) {
         let most_gates = if round % 4 == 0 { 64 } else { 10 };
         let gates = 1 + random.below(most_gates);
         let block = generate::block(random, kind, Values::Small, gates, 0);
-        let block = in_either_edition(random, block);
+        let block = in_any_edition(random, block);
         if network::check(&block).is_err() {
             continue;
         }
@@ -130,19 +132,18 @@ pub fn check_left(random: &mut Random) -> (usize, usize, usize) {
     (yes, small + large, places.len())
 }
 
-/// The generator makes what its kinds promise, in edition 1 or, with wire delays, in edition 2.
-pub fn check_generator(random: &mut Random, with_delays: bool) -> usize {
+/// The generator makes what its kinds promise in an edition, with wire delays where it has them.
+pub fn check_generator(random: &mut Random, edition: u8) -> usize {
     let (mut loops, mut ends, mut not_series_parallel, mut ties, mut late, mut barely_late, mut full) =
         (0, 0, 0, 0, 0, 0, 0);
     let mut blocks = 0;
     while blocks < 4_000 {
         let block = any_block(random, 12);
-        let block = if with_delays { in_either_edition(random, block) } else { block };
-        if block.is_delayed() != with_delays {
+        let block = in_any_edition(random, block);
+        if block.edition != edition || block.is_delayed() != has_wire_delays(edition) {
             continue;
         }
         blocks += 1;
-        assert_eq!(block.edition, 1 + u8::from(with_delays));
         assert_eq!(decode(&encode(&block)), Ok(block.clone()));
         match network::check(&block) {
             Err(refusal) => {
@@ -162,4 +163,52 @@ pub fn check_generator(random: &mut Random, with_delays: bool) -> usize {
     let counts = [loops, ends, not_series_parallel, ties, late, barely_late, full];
     assert!(counts.iter().all(|&count| count >= 40), "{counts:?}");
     blocks
+}
+
+/// What list merging answers, and the increases that it writes.
+fn merged(block: &Block) -> (Result<(usize, u64), Refusal>, [u32; MAX_GATES]) {
+    let mut increases = [0; MAX_GATES];
+    (merging::best_increases(&encode(block), &mut increases), increases)
+}
+
+/// A block with probabilities and the same in edition 3 have the same activities, and list merging answers both alike.
+pub fn check_twins(random: &mut Random) -> usize {
+    let mut twins = 0;
+    while twins < 2_000 {
+        let block = any_block(random, 12);
+        let block = in_any_edition(random, block);
+        if is_measured(block.edition) {
+            continue;
+        }
+        twins += 1;
+        let twin = in_edition_3(block.clone());
+        assert_eq!((twin.edition, decode(&encode(&twin))), (3, Ok(twin.clone())));
+        for gate in 0..block.gates.len() {
+            assert_eq!(timing::input_activity(&block, gate), timing::input_activity(&twin, gate), "{block:?}");
+        }
+        assert_eq!(merged(&block), merged(&twin), "{block:?}");
+    }
+    twins
+}
+
+/// The measured activities that the generator makes reach both limits, and most of them are such that no probability yields
+/// them. Returns how many nets there were.
+pub fn check_activities(random: &mut Random) -> usize {
+    let yielded: HashSet<u32> = (0..=256).map(|p| 2 * p * (256 - p)).collect();
+    let (mut nets, mut silent, mut greatest, mut unyielded) = (0, 0, 0, 0);
+    while nets < 10_000 {
+        let block = any_block(random, 12);
+        let block = in_any_edition(random, block);
+        if !is_measured(block.edition) {
+            continue;
+        }
+        for activity in block.gates.iter().map(|gate| gate.switching).chain([block.switching]) {
+            nets += 1;
+            silent += usize::from(activity == 0);
+            greatest += usize::from(activity == 65_535);
+            unyielded += usize::from(!yielded.contains(&activity));
+        }
+    }
+    assert!(silent > 500 && greatest > 500 && 2 * unyielded > nets, "{silent} {greatest} {unyielded} {nets}");
+    nets
 }

@@ -2,20 +2,21 @@
 
 use crate::networks::small_block;
 use reference::answers;
-use reference::block::{decode, encode, Block, MAX_GATES};
-use reference::compare::is_delayed;
-use reference::generate::{self, any_block, in_either_edition, Values, Wires, ALL_VALUES};
+use reference::block::{decode, encode, Block, MAX_DROP, MAX_GATES};
+use reference::edition::max_activity;
+use reference::generate::editions::{in_any_edition, Counted};
+use reference::generate::{self, any_block, Values, Wires, ALL_VALUES};
 use reference::random::Random;
 use reference::{damage, exact, merging, parts, search, timing};
 
-/// Flows find what trying every list finds: best list, best saving for every spare, curve. Returns how many blocks have
-/// wire delays, how many spares there were, and how many blocks were late.
-pub fn check_exact(random: &mut Random) -> (usize, usize, usize) {
-    let (mut delayed, mut lists, mut late) = (0, 0, 0);
+/// Flows find what trying every list finds: best list, best saving for every spare, curve. Returns which blocks there were,
+/// how many spares, and how many blocks were late.
+pub fn check_exact(random: &mut Random) -> (Counted, usize, usize) {
+    let (mut counted, mut lists, mut late) = (Counted::default(), 0, 0);
     for _ in 0..6_000 {
         let kind = random.pick(&[Wires::SeriesParallel, Wires::SeriesParallel, Wires::General]);
         let block = small_block(random, kind);
-        delayed += usize::from(block.is_delayed());
+        counted.count(&block);
         let tried = search::best(&block);
         late += usize::from(tried.is_none());
         assert_eq!(exact::best(&block), tried, "{block:?}");
@@ -29,18 +30,18 @@ pub fn check_exact(random: &mut Random) -> (usize, usize, usize) {
             assert_eq!(Some(exact::curve(&block)), search::curve(&block), "{block:?}");
         }
     }
-    assert!(delayed > 1_000 && late > 100);
-    (delayed, lists, late)
+    assert!(counted.delayed > 1_000 && counted.measured > 1_000 && late > 100, "{counted} {late}");
+    (counted, lists, late)
 }
 
 /// Merging gives a list in time of the saving that it states, which is the best; and the same refusals. Returns how many
-/// blocks are sized, how many of these have wire delays, and how many are refused.
-pub fn check_merging(random: &mut Random) -> (usize, usize, usize) {
-    let (mut accepted, mut delayed, mut refused) = (0, 0, 0);
+/// blocks are sized, which these are, and how many are refused.
+pub fn check_merging(random: &mut Random) -> (usize, Counted, usize) {
+    let (mut accepted, mut counted, mut refused) = (0, Counted::default(), 0);
     for round in 0..4_000 {
         let most_gates = if round % 10 == 0 { 64 } else { 16 };
         let block = any_block(random, most_gates);
-        let block = in_either_edition(random, block);
+        let block = in_any_edition(random, block);
         let mut file = encode(&block);
         if random.chance(1, 4) {
             file = damage::damaged(random, &file);
@@ -56,12 +57,13 @@ pub fn check_merging(random: &mut Random) -> (usize, usize, usize) {
                 assert_eq!(merged, Ok((best.increases.len(), best.saving)), "{block:?}");
                 assert_eq!(answers::judge(&file, &increases), Ok(best.saving), "{block:?}");
                 accepted += 1;
-                delayed += usize::from(is_delayed(&file));
+                counted.count(&decode(&file).expect("a block"));
             }
         }
     }
-    assert!(accepted > 1_000 && delayed > 300 && refused > 1_000, "{accepted} {delayed} {refused}");
-    (accepted, delayed, refused)
+    assert!(accepted > 1_000 && refused > 1_000, "{accepted} {refused}");
+    assert!(counted.delayed > 300 && counted.measured > 300, "{counted}");
+    (accepted, counted, refused)
 }
 
 /// The best saving of a block of which one gate is slowed by exactly so many ticks, by list merging.
@@ -76,15 +78,15 @@ fn best_saving_with(block: &mut Block, gate: usize, increase: u32) -> Option<u64
 }
 
 /// The order of ties on larger blocks: gate after gate, the increase allows the best saving and one tick less does not.
-/// (The increases of one gate that allow it lie side by side.) Returns how many blocks and gates there were, and how many
-/// of the blocks have wire delays.
-pub fn check_ties(random: &mut Random) -> (usize, usize, usize) {
-    let (mut blocks, mut gates, mut delayed) = (0, 0, 0);
+/// (The increases of one gate that allow it lie side by side.) Returns how many blocks and gates there were, and which
+/// blocks.
+pub fn check_ties(random: &mut Random) -> (usize, usize, Counted) {
+    let (mut blocks, mut gates, mut counted) = (0, 0, Counted::default());
     while blocks < 300 {
         let values = random.pick(&[Values::Equal, Values::Equal, Values::Exhausted, Values::Plain]);
         let count = 8 + random.below(57);
         let block = generate::block(random, Wires::SeriesParallel, values, count, 3);
-        let mut block = in_either_edition(random, block);
+        let mut block = in_any_edition(random, block);
         let Some(best) = exact::best(&block) else { continue };
         let mut earned = 0;
         for (gate, &increase) in best.increases.iter().enumerate() {
@@ -99,10 +101,10 @@ pub fn check_ties(random: &mut Random) -> (usize, usize, usize) {
             gates += 1;
         }
         blocks += 1;
-        delayed += usize::from(block.is_delayed());
+        counted.count(&block);
     }
-    assert!(delayed > 60);
-    (blocks, gates, delayed)
+    assert!(counted.delayed > 60 && counted.measured > 60, "{counted}");
+    (blocks, gates, counted)
 }
 
 /// The curve says what the best list saves, at the block's own spare and at some others.
@@ -111,10 +113,11 @@ pub fn check_curve(random: &mut Random) -> usize {
         let values = random.pick(&ALL_VALUES);
         let gates = 1 + random.below(40);
         let block = generate::block(random, Wires::SeriesParallel, values, gates, 8);
-        let block = in_either_edition(random, block);
+        let block = in_any_edition(random, block);
         let curve = exact::curve(&block);
+        let most_gain = 63 * u64::from(max_activity(block.edition)) * u64::from(MAX_DROP);
         assert!(curve.pairs.len() <= 512);
-        assert!(curve.pairs.iter().all(|p| p.0 >= 1 && p.1 >= 1 && p.1 <= 63 * 32_768 * 1_000));
+        assert!(curve.pairs.iter().all(|p| p.0 >= 1 && (1..=most_gain).contains(&p.1)));
         assert!(curve.pairs.windows(2).all(|p| p[0].1 > p[1].1));
         let all: u64 = curve.pairs.iter().map(|p| p.0).sum();
         for _ in 0..4 {
@@ -131,7 +134,7 @@ pub fn check_damage(random: &mut Random) -> usize {
     let mut count = 0;
     for _ in 0..20 {
         let block = any_block(random, 8);
-        let file = encode(&in_either_edition(random, block));
+        let file = encode(&in_any_edition(random, block));
         for damaged in damage::every_cut(&file).into_iter().chain(damage::every_byte_changed(&file)) {
             match decode(&damaged) {
                 Ok(block) => assert_eq!(encode(&block), damaged),

@@ -3,7 +3,7 @@
 use mathlib.Core.Path.{_≡_}
 use native.Mathlib.Omega.{arith}
 use borrow.Author.Tests.{lt-leb, le-leb}
-use Rattle.model.specs.File.{wire-bytes}
+use Rattle.model.specs.Edition.{wire-bytes}
 use Rattle.ranges.proofs.edition.wire_delay.Statement.{statement}
 use Rattle.ranges.proofs.edition.wire_delay.Tie as tie
 

@@ -5,6 +5,7 @@ use Prim.Native.Nat.{_≤_}
 use native.Mathlib.Omega.{arith}
 use borrow.Author.Tests.{lt-leb, le-leb}
 use lib.ListN.{getD}
+use Rattle.model.specs.Limits.{max-edition, max-gates, max-time}
 use Rattle.model.specs.Field.{number}
 use Rattle.ranges.proofs.limits.block_in_range.Statement.{statement}
 use Rattle.ranges.proofs.limits.block_in_range.Tie as tie
@@ -20,7 +21,7 @@ shared-slice-read-if2 c = search needs
 
 returns-2 : tie.Need-returns-2
 returns-2 c = let b = c .before .before .before .before .before .args .body .now in
-    rw (le-leb 1 (getD b 0 0) (omega arith), lt-leb (getD b 0 0) 2 (omega arith))
+    rw (le-leb 1 (getD b 0 0) (omega arith), lt-leb (getD b 0 0) max-edition (omega arith))
 
 shared-slice-read-if3 : tie.Need-shared-slice-read-if3
 shared-slice-read-if3 c = search needs
@@ -29,7 +30,7 @@ returns-3 : tie.Need-returns-3
 returns-3 c =
     let start = c .before .before .before .before .before .before .before in
     let b = start .args .body .now in
-    rw (le-leb 1 (getD b 0 0) (omega arith), le-leb (getD b 0 0) 2 (omega arith), lt-leb 1 (getD b 1 0) (omega arith))
+    rw (le-leb 1 (getD b 0 0) (omega arith), le-leb (getD b 0 0) max-edition (omega arith), lt-leb 1 (getD b 1 0) (omega arith))
 
 shared-slice-read-if4 : tie.Need-shared-slice-read-if4
 shared-slice-read-if4 c = search needs
@@ -40,30 +41,37 @@ returns-4 c =
     let b = start .args .body .now in
     rw (
       le-leb 1 (getD b 0 0) (omega arith),
-      le-leb (getD b 0 0) 2 (omega arith),
+      le-leb (getD b 0 0) max-edition (omega arith),
       le-leb 1 (getD b 1 0) (omega arith),
-      lt-leb (getD b 1 0) 64 (omega arith),
+      lt-leb (getD b 1 0) max-gates (omega arith),
     )
 
 number-at-requires : tie.Need-number-at-requires
 number-at-requires c κs = search needs
 
+shared-slice-read-max-switching : tie.Need-shared-slice-read-max-switching
+shared-slice-read-max-switching c = search needs
+
+max-switching-requires : tie.Need-max-switching-requires
+max-switching-requires c κs = search needs
+
 returns-5 : tie.Need-returns-5
 returns-5 c =
-    let start = c .before .before .before .before .before .before .before .before .before .before in
+    let start = c .before .before .before .before .before .before .before .before .before .before .before .before in
     let b = start .args .body .now in
-    let byte = c .before .before .before .before .before .before .before .before .before .shared-slice-known .given in
-    let arrival : number b 2 ≤ 65535 = omega (arith, byte 2, byte 3) in
-    let deadline : number b 4 ≤ 65535 = omega (arith, byte 4, byte 5) in
+    let byte = c .before .before .before .before .before .before .before .before .before .before .before .shared-slice-known .given in
+    let arrival : number b 2 ≤ max-time = omega (arith, byte 2, byte 3) in
+    let deadline : number b 4 ≤ max-time = omega (arith, byte 4, byte 5) in
     rw (
-      c .number-at .ensures,
+      c .before .before .number-at .ensures,
+      c .max-switching .ensures,
       le-leb 1 (getD b 0 0) (omega arith),
-      le-leb (getD b 0 0) 2 (omega arith),
+      le-leb (getD b 0 0) max-edition (omega arith),
       le-leb 1 (getD b 1 0) (omega arith),
-      le-leb (getD b 1 0) 64 (omega arith),
-      le-leb (number b 2) 65535 arrival,
-      le-leb (number b 4) 65535 deadline,
+      le-leb (getD b 1 0) max-gates (omega arith),
+      le-leb (number b 2) max-time arrival,
+      le-leb (number b 4) max-time deadline,
     )
 
 pub block-in-range-spec : {M : Type 1} → statement M
-block-in-range-spec = tie.close (tie.spec shared-slice-read-if1 returns shared-slice-read-if2 returns-2 shared-slice-read-if3 returns-3 shared-slice-read-if4 returns-4 number-at-requires returns-5)
+block-in-range-spec = tie.close (tie.spec shared-slice-read-if1 returns shared-slice-read-if2 returns-2 shared-slice-read-if3 returns-3 shared-slice-read-if4 returns-4 number-at-requires shared-slice-read-max-switching max-switching-requires returns-5)

@@ -1,0 +1,120 @@
+"""Mistakes that the second opinion must notice: each function yields the lines of a stored case once more for every mistake."""
+
+from copy import copy
+
+WIRES_MISTAKEN = 4
+
+
+def wrong_numbers(words):
+    """The words of a line, each time with one number more by 1."""
+    for i, word in enumerate(words):
+        if word.isdigit():
+            yield words[:i] + [str(int(word) + 1)] + words[i + 1 :]
+
+
+def wrong_curves(start, at_start, count, *pairs):
+    """A curve of two pairs or more, each time with one mistake that few checks notice."""
+    w, g, *middle, x, y = pairs
+    # begun a tick late; a pair in two; an empty pair; a pair that earns nothing
+    if w > 1:
+        yield start + 1, at_start + g, count, w - 1, *pairs[1:]
+        yield start, at_start, count + 1, 1, g, w - 1, *pairs[1:]
+    yield start, at_start, count + 1, 0, g + 1, *pairs
+    yield start, at_start, count + 1, *pairs, 1, 0
+    # what the last pair earns: earned by the first, for twice as long, or at start; no pair
+    yield start, at_start, count, w, g + x, *middle, x, y - w
+    if y % 2 == 0:
+        yield start, at_start, count, w, g, *middle, 2 * x, y // 2
+    yield start, at_start + x * y, count - 1, w, g, *middle
+    yield start, at_start, 0
+
+
+def wrong_lines(lines):
+    """The lines of a case, each time with one mistake."""
+    for at, line in enumerate(lines):
+        words = line.split(" ")
+        for wrong in wrong_numbers(words):
+            yield lines[:at] + [" ".join(wrong)] + lines[at + 1 :]
+        yield lines[:at] + [line.replace("kept", "changed") if "kept" in line else line + " "] + lines[at + 1 :]
+        yield lines[:at] + lines[at + 1 :]
+        yield lines[: at + 1] + lines[at:]
+
+
+def wrong_answers(lines):
+    """The lines of a case that has to choose, each time with one mistake in the curve or the best list."""
+    curve, best = lines[2].split(" ")[1:-1], lines[3].split(" ")[1:-1]
+    for wrong in (*wrong_curves(*map(int, curve)), ("refused", 11, 1)):
+        yield lines[:2] + ["curve %s kept" % " ".join(map(str, wrong))] + lines[3:]
+    for wrong in (best[:-1], best + ["0"], ["refused", "12", "0"]):
+        yield lines[:3] + ["best %s kept" % " ".join(wrong)] + lines[4:]
+
+
+def wrong_places(lines):
+    """The lines of a case that got 11, each time with one place 0."""
+    yield lines[:2] + ["curve refused 11 0 kept"] + lines[3:]
+    yield lines[:3] + ["best refused 11 0 kept"] + lines[4:]
+
+
+def mistaken_delays(block):
+    """The block, each time with a mistake in the delays of all wires, or of one: left out, counted twice, one of the two bytes
+    read, the bytes exchanged."""
+    delayed = [wire for wire in block.wires if block.wire_delay[wire]]
+    for wires in [delayed] + [[wire] for wire in delayed[:WIRES_MISTAKEN]]:
+        for wrong in (lambda d: 0, lambda d: 2 * d, lambda d: d % 256, lambda d: d // 256, lambda d: d % 256 * 256 + d // 256):
+            other = copy(block)
+            other.wire_delay = {**block.wire_delay, **{wire: wrong(block.wire_delay[wire]) for wire in wires}}
+            yield other
+
+
+def wrong_slacks(block, other):
+    """The slacks with the delays of another block only on the way to a gate, and only on the way behind it."""
+    yield block.slacks_between(other, block)
+    yield block.slacks_between(block, other)
+
+
+def all_or_one(lines, wrong):
+    """The lines of a case, each time with all of them, or one of them, replaced by wrong ones."""
+    yield wrong
+    for at in range(len(lines)):
+        yield lines[:at] + [wrong[at]] + lines[at + 1 :]
+
+
+def wrong_delays(case, lines):
+    """The lines of a case, each time with all of them, or one of them, as mistaken wire delays would give them, where that
+    makes a difference."""
+    for other in mistaken_delays(case.block):
+        each = list(all_or_one(lines, case.lines_with(other)))
+        for slacks in wrong_slacks(case.block, other):
+            each.append(lines[:1] + ["slacks %s kept" % " ".join(map(str, slacks))] + lines[2:])
+        yield from (some for some in each if some != lines)
+
+
+def as_it_is(number):
+    return number
+
+
+def by_formula(number):
+    """2p(256 - p), as 32 bits hold it."""
+    return 2 * number * (256 - number) % 2**32
+
+
+# How the numbers of a file of edition 3 can be mistaken: the input's, and those of the gates' outputs.
+ACTIVITY_MISTAKES = {
+    "the formula": (by_formula, by_formula),
+    "the formula at the input": (by_formula, as_it_is),
+    "the formula at the gates": (as_it_is, by_formula),
+    "the high byte alone": (lambda number: number // 256,) * 2,
+    "the low byte alone": (lambda number: number % 256,) * 2,
+    "bytes exchanged": (lambda number: number % 256 * 256 + number // 256,) * 2,
+    "a cut at 256": (lambda number: min(number, 256),) * 2,
+    "the gates' numbers alone": (lambda number: 0, as_it_is),
+    "the input's number alone": (as_it_is, lambda number: 0),
+}
+
+
+def wrong_activities(case, lines, mistaken):
+    """The lines of a case, each time with all of them, or one of them, as activities mistaken in one way would give them, where
+    that makes a difference."""
+    other = copy(case.block)
+    other.activity = case.block.input_activities(*mistaken)
+    yield from (some for some in all_or_one(lines, case.lines_with(other)) if some != lines)

@@ -1,0 +1,191 @@
+//! Which cases are stored, group after group.
+
+use super::{Case, MOST_LISTS};
+use crate::block::{encode, Block};
+use crate::boundaries::{self, Boundary};
+use crate::generate::editions::{in_edition_3, set_activities, with_activities, with_wire_delays};
+use crate::generate::editions::{WireDelays, ALL_ACTIVITIES, ALL_WIRE_DELAYS};
+use crate::generate::{self, any_block, bridged_block, has_ties, Values, Wires, ALL_VALUES};
+use crate::random::Random;
+use crate::worked::{self, Worked};
+use crate::{damage, exact, search, timing};
+
+/// Blocks that are looked at for one with ties.
+const MOST_TRIES: usize = 200;
+
+/// Slices of just enough elements and of one too few, for blocks that are in time, late, and not series-parallel.
+fn short_slices() -> Vec<Case> {
+    let bridge = boundaries::all().into_iter().find(|b| b.name == "the bridge, late").expect("a boundary").file;
+    let mut cases = Vec::new();
+    for file in [encode(&worked::diamond(10)), encode(&worked::diamond(6)), bridge] {
+        for (lent, lent_widths, lent_gains) in
+            [(4, 512, 512), (3, 511, 512), (3, 512, 511), (0, 0, 0), (4, 511, 511), (68, 520, 511), (3, 512, 512)]
+        {
+            cases.push(Case { lent, lent_widths, lent_gains, ..Case::of(file.clone(), 1) });
+        }
+    }
+    cases.push(Case { lent: 0, ..Case::of(Vec::new(), 0) });
+    cases
+}
+
+/// A file cut at every byte, and with every byte changed.
+fn damaged(file: Vec<u8>) -> Vec<Case> {
+    let files = damage::every_cut(&file).into_iter().chain(damage::every_byte_changed(&file));
+    files.enumerate().map(|(i, file)| Case::of(file, i)).collect()
+}
+
+fn small_blocks(random: &mut Random) -> Vec<Case> {
+    (0..150).map(|i| Case::of(encode(&any_block(random, 7)), i)).collect()
+}
+
+fn large_block(random: &mut Random, round: usize) -> Block {
+    let kind = match round % 10 {
+        0 => Wires::Nearly,
+        1 => Wires::General,
+        2 if round % 20 == 2 => Wires::Faulty,
+        _ => Wires::SeriesParallel,
+    };
+    let values = ALL_VALUES[round % 5];
+    let gates = if round % 3 == 0 { 64 } else { 12 + random.below(53) };
+    let most_steps = random.pick(&[1, 2, 4, 8]);
+    generate::block(random, kind, values, gates, most_steps)
+}
+
+/// Whether a block in time has spare ticks, and fewer than could earn something.
+fn has_to_choose(block: &Block) -> bool {
+    let earning: u64 = exact::curve(block).pairs.iter().map(|pair| pair.0).sum();
+    (1..earning as i64).contains(&timing::spare(block))
+}
+
+/// What an edition changes of a random block of edition 1; the number chooses among the kinds of change.
+type Change = fn(&mut Random, Block, usize) -> Block;
+
+/// Leaves the block as it is.
+fn unchanged(_: &mut Random, block: Block, _: usize) -> Block {
+    block
+}
+
+/// The block in edition 2, with wire delays of one kind after another.
+fn delayed(random: &mut Random, block: Block, kind: usize) -> Block {
+    let kinds = [WireDelays::Small, WireDelays::Middle, WireDelays::Any, WireDelays::Huge];
+    with_wire_delays(random, block, kinds[kind % 4])
+}
+
+/// The block in edition 3, with wire delays and measured activities of one kind after another.
+fn measured(random: &mut Random, block: Block, kind: usize) -> Block {
+    let block = with_wire_delays(random, block, ALL_WIRE_DELAYS[kind % 5]);
+    with_activities(random, block, ALL_ACTIVITIES[kind % 4])
+}
+
+/// A series-parallel block of 8 to 12 gates, no chain, with just so many lists that all of them can be tried; one of few
+/// different gains has ties, unless none comes in many tries because no two activities are equal.
+fn searched_block(random: &mut Random, round: usize, change: Change) -> Block {
+    let kind = if round % 4 == 0 { Wires::Wide } else { Wires::SeriesParallel };
+    let values = [Values::Small, Values::Equal, Values::Exhausted][round % 3];
+    let mut tries = 0;
+    loop {
+        let block = generate::block(random, kind, values, 8 + round % 5, 2);
+        let lists = search::count_of_lists(&block);
+        let many = lists >= MOST_LISTS / 4 && lists <= MOST_LISTS && timing::all_paths(&block).len() > 2;
+        if !many {
+            continue;
+        }
+        let block = change(random, block, round / 4);
+        if !has_to_choose(&block) {
+            continue;
+        }
+        tries += 1;
+        if values != Values::Equal || tries == MOST_TRIES || has_ties(&block) {
+            return block;
+        }
+    }
+}
+
+/// The cases of edition 1.
+fn edition_1() -> Vec<Case> {
+    let random = &mut Random::from_seed(2_023);
+    let searched = &mut Random::from_seed(8_012);
+    let bridged = &mut Random::from_seed(464);
+    let mut cases: Vec<Case> = Vec::new();
+    cases.extend(worked::edition_1().into_iter().enumerate().map(|(i, w)| Case::of(w.file, i)));
+    cases.extend(boundaries::edition_1().into_iter().enumerate().map(|(i, b)| Case::of(b.file, i)));
+    cases.extend(short_slices());
+    cases.extend(damaged(encode(&worked::diamond(10))));
+    cases.extend(small_blocks(random));
+    cases.extend((0..300).map(|round| Case::of(encode(&large_block(random, round)), round)));
+    cases.extend((0..40).map(|round| Case::of(encode(&searched_block(searched, round, unchanged)), round)));
+    cases.extend((0..40).map(|round| Case::of(encode(&bridged_block(bridged, 64)), round)));
+    cases
+}
+
+/// A small block of any kind, whose lists can all be tried.
+fn small_block(random: &mut Random) -> Block {
+    loop {
+        let block = any_block(random, 7);
+        if search::count_of_lists(&block) <= MOST_LISTS {
+            return block;
+        }
+    }
+}
+
+/// Random blocks changed by an edition: small ones, series-parallel ones of many lists, larger ones, and some with a bridge.
+fn random_blocks(random: &mut Random, searched: &mut Random, change: Change) -> Vec<Case> {
+    let mut cases: Vec<Case> = Vec::new();
+    let mut add = |block: &Block, round: usize| cases.push(Case::of(encode(block), round));
+    for round in 0..100 {
+        let block = small_block(random);
+        add(&change(random, block, round), round);
+    }
+    for round in 0..40 {
+        add(&searched_block(searched, round, change), round);
+    }
+    for round in 0..100 {
+        let block = large_block(random, round);
+        add(&change(random, block, round / 10), round);
+    }
+    for round in 0..20 {
+        let block = bridged_block(random, 64);
+        add(&change(random, block, round), round);
+    }
+    cases
+}
+
+/// Blocks worked out by hand, boundaries, and a file cut and changed at every byte.
+fn by_hand(worked: Vec<Worked>, boundaries: Vec<Boundary>, file: Vec<u8>) -> Vec<Case> {
+    let worked = worked.into_iter().enumerate().map(|(i, w)| Case::of(w.file, i));
+    let boundaries = boundaries.into_iter().enumerate().map(|(i, b)| Case::of(b.file, i));
+    worked.chain(boundaries).chain(damaged(file)).collect()
+}
+
+/// The cases that came with edition 2.
+fn edition_2() -> Vec<Case> {
+    let diamond = worked::delayed_diamond([1, 0, 0, 2]);
+    let mut cases = by_hand(worked::edition_2(), boundaries::edition_2::all(), encode(&diamond));
+    cases.extend(random_blocks(&mut Random::from_seed(2_024), &mut Random::from_seed(8_013), delayed));
+    cases
+}
+
+/// The cases that came with edition 3.
+fn edition_3() -> Vec<Case> {
+    let mut diamond = worked::delayed_diamond([1, 0, 0, 2]);
+    set_activities(&mut diamond, [40_001, 513, 258, 65_535, 772]);
+    let mut cases = by_hand(worked::edition_3::all(), boundaries::edition_3::all(), encode(&diamond));
+    cases.extend(random_blocks(&mut Random::from_seed(2_025), &mut Random::from_seed(8_014), measured));
+    cases
+}
+
+/// The cases once more in a later edition, but for those that are such already, and for those of files that cannot be read.
+fn twins(cases: &[Case], edition: u8, restated: fn(Block) -> Block) -> Vec<Case> {
+    let first = cases.iter().enumerate().filter(|(_, case)| case.twin_of.is_none());
+    first.filter_map(|(number, case)| case.twin(number, edition, restated)).collect()
+}
+
+/// Every stored case, in order.
+pub fn all() -> Vec<Case> {
+    let mut cases = edition_1();
+    cases.extend(twins(&cases, 2, |block| Block { edition: 2, ..block }));
+    cases.extend(edition_2());
+    cases.extend(twins(&cases, 3, in_edition_3));
+    cases.extend(edition_3());
+    cases
+}
