@@ -7,14 +7,14 @@ use Prim.Native.Nat.{ℕ, _<_, _≤_}
 use native.Mathlib.Omega.{arith}
 use borrow.Author.Tests.{lt-leb, le-leb}
 use lib.Dec.{T, leb, eqb, eqb→eq, leb→le, le→leb}
-use lib.ListN.{length, getD, length-map}
+use lib.ListN.{length, length-map}
 use lib.Seq.{ext-getD}
 use Rattle.lists.specs.Sum.{total}
 use Rattle.lists.proofs.Member.{placed}
 use Rattle.model.proofs.Every.{every-at, every-map, every-weaker}
 use Rattle.model.proofs.Reading.{read-block-found}
 use Rattle.model.proofs.File.{encode-decodes, decoded-is-limited}
-use Rattle.model.proofs.Limited.{switching-range, gate-ranges, gate-in-range, no-drawn, gate-is, header-limits, header-in-range}
+use Rattle.model.proofs.Limited.{switching-range, gate-ranges, gate-in-range, drawn-gate, gate-is, header-limits, header-in-range}
 use Rattle.model.proofs.Path.{Passes, Undelayed, ByGates, lasts-its-gates, gates-make-a-path}
 use Rattle.model.specs.Limits.{max-edition, max-steps, max-probability, max-activity}
 use Rattle.model.specs.Activity.{activity}
@@ -53,9 +53,9 @@ as-measured ed v h = ap (λ (f : Bool). cond f v (activity v)) (le-leb _ ed (ome
 
 -- THE SAME BLOCK. Gate g of two netlists has the same delay, activity and steps.
 pub record GateAgrees (M N : Netlist) (g : ℕ) : Type 0 where
-  pub delay : getD (M .gates) g no-drawn .delay ≡ getD (N .gates) g no-drawn .delay
-  pub activity : activity-of (M .edition) (getD (M .gates) g no-drawn .switching) ≡ activity-of (N .edition) (getD (N .gates) g no-drawn .switching)
-  pub steps : getD (M .gates) g no-drawn .steps ≡ getD (N .gates) g no-drawn .steps
+  pub delay : drawn-gate M g .delay ≡ drawn-gate N g .delay
+  pub activity : activity-of (M .edition) (drawn-gate M g .switching) ≡ activity-of (N .edition) (drawn-gate N g .switching)
+  pub steps : drawn-gate M g .steps ≡ drawn-gate N g .steps
 
 -- Two netlists agree: in the activity of each net and in every other number. Their editions are free.
 pub record Agree (M N : Netlist) : Type 0 where
@@ -66,7 +66,7 @@ pub record Agree (M N : Netlist) : Type 0 where
   pub gates : (g : ℕ) → g < length (M .gates) → GateAgrees M N g
   pub wires : M .wires ≡ N .wires
 
-same-gate : {M N : Netlist} {g : ℕ} → GateAgrees M N g → gate-of (M .edition) (getD (M .gates) g no-drawn) ≡ gate-of (N .edition) (getD (N .gates) g no-drawn)
+same-gate : {M N : Netlist} {g : ℕ} → GateAgrees M N g → gate-of (M .edition) (drawn-gate M g) ≡ gate-of (N .edition) (drawn-gate N g)
 same-gate a = λ i. record { delay = a .delay i; activity = a .activity i; steps = a .steps i }
 
 pub same-block : (M N : Netlist) → Agree M N → block-of M ≡ block-of N
@@ -123,7 +123,7 @@ delay-again false false s d t = t
 
 module _ {N : Netlist} (l : Limited N) (later : ℕ) (not-earlier : N .edition ≤ later) (known : later ≤ max-edition) where
   number-fits : (v : ℕ) → v ≤ max-switching (N .edition) → switching-in later (N .edition) v ≤ max-switching later
-  number-fits v h = range-again (has-activities later) (has-activities (N .edition)) (still 3 (N .edition) later not-earlier) v (switching-range (N .edition) v h .1) h
+  number-fits v h = range-again (has-activities later) (has-activities (N .edition)) (still _ (N .edition) later not-earlier) v (switching-range (N .edition) v h .1) h
 
   gate-fits : (g : DrawnGate) → T (in-range (gate (N .edition)) g) → T (in-range (gate later) (gate-in later (N .edition) g))
   gate-fits g t =
@@ -154,14 +154,14 @@ module _ {N : Netlist} (l : Limited N) (later : ℕ) (not-earlier : N .edition �
         wires = subst (λ (m : ℕ). T (every (in-range (wire later m [])) (N .wires))) (sym n) (l .wires);
         delays =
             every-weaker (delay-fits (N .edition)) (delay-fits later)
-            (λ (w : Wire). delay-again (has-wire-delays later) (has-wire-delays (N .edition)) (still 2 (N .edition) later not-earlier) (w .delay))
+            (λ (w : Wire). delay-again (has-wire-delays later) (has-wire-delays (N .edition)) (still _ (N .edition) later not-earlier) (w .delay))
             (N .wires) (l .delays);
         no-wire-twice = l .no-wire-twice;
         wire-count = l .wire-count;
       }
 
   same-activity : (v : ℕ) → activity-of later (switching-in later (N .edition) v) ≡ activity-of (N .edition) v
-  same-activity = activity-again (has-activities later) (has-activities (N .edition)) (still 3 (N .edition) later not-earlier)
+  same-activity = activity-again (has-activities later) (has-activities (N .edition)) (still _ (N .edition) later not-earlier)
 
   raised-block : block-of (in-edition later N) ≡ block-of N
   raised-block =

@@ -125,16 +125,19 @@ drawn-limits ed g r c f =
       drops-fall = λ (j : ℕ) (d : Step) (h : suc j < length (g .steps)). falls-at (g .steps) j d f h;
     }
 
--- a drawn gate that no number names
-abbrev pub no-drawn : DrawnGate
+-- a drawn gate that no number names, and the one of number g
+abbrev no-drawn : DrawnGate
 no-drawn = record { delay = 0; switching = 0; steps = [] }
+
+abbrev pub drawn-gate : Netlist → ℕ → DrawnGate
+drawn-gate N g = getD (N .gates) g no-drawn
 
 never-switches : (f : Bool) → cond f 0 (activity 0) ≡ 0
 unfolding activity
 never-switches true = refl
 never-switches false = refl
 
-pub gate-is : (N : Netlist) (g : ℕ) → Block.gate (block-of N) g ≡ gate-of (N .edition) (getD (N .gates) g no-drawn)
+pub gate-is : (N : Netlist) (g : ℕ) → Block.gate (block-of N) g ≡ gate-of (N .edition) (drawn-gate N g)
 gate-is N g =
     let none : no-gate ≡ gate-of (N .edition) no-drawn = λ i. record { delay = 0; activity = sym (never-switches (has-activities (N .edition))) i; steps = [] } in
     ap (getD (map (gate-of (N .edition)) (N .gates)) g) none ∙ List·getD-map (gate-of (N .edition)) (N .gates) g no-drawn
@@ -143,7 +146,7 @@ gate-limits : {N : Netlist} → Limited N → (g : ℕ) → GateLimits (Block.ga
 unfolding every falls
 gate-limits {N} l g =
     rw (gate-is N g)
-    (drawn-limits (N .edition) (getD (N .gates) g no-drawn) (every-anywhere (in-range (gate (N .edition))) (N .gates) g no-drawn (l .gates) (gate-in-range (N .edition) no-drawn (omega arith) (omega arith) tt))
+    (drawn-limits (N .edition) (drawn-gate N g) (every-anywhere (in-range (gate (N .edition))) (N .gates) g no-drawn (l .gates) (gate-in-range (N .edition) no-drawn (omega arith) (omega arith) tt))
     (every-anywhere (λ (x : DrawnGate). leb (length (x .steps)) max-steps) (N .gates) g no-drawn (l .steps) tt)
     (every-anywhere (drops-fall (gate (N .edition))) (N .gates) g no-drawn (l .drops) tt))
 
