@@ -132,6 +132,7 @@ no-drawn = record { delay = 0; switching = 0; steps = [] }
 abbrev pub drawn-gate : Netlist → ℕ → DrawnGate
 drawn-gate N g = getD (N .gates) g no-drawn
 
+-- a net with the number 0 has no transitions
 never-switches : (f : Bool) → cond f 0 (activity 0) ≡ 0
 unfolding activity
 never-switches true = refl

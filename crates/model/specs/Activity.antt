@@ -1,4 +1,4 @@
--- The activity of a net (002, equation 2; document 01, "Gains, paths, building up").
+-- The activity of a net by its probability (002, equation 2; document 01, "Gains, paths, building up"). `activity-of` (Edition) says in which editions of the block file it counts.
 use mathlib.Core.List.{List}
 use Prim.Native.Nat.{ℕ, _*_, _-_}
 use Rattle.lists.specs.Table.{entries}
