@@ -7,12 +7,12 @@ use borrow.Author.Tests.{eqb-true}
 use lib.Dec.{T}
 use lib.ListN.{length, getD}
 use Rattle.model.specs.declared.Refusal.{Refusal}
-use Rattle.model.specs.Limits.{max-wires}
+use Rattle.model.specs.Limits.{max-gates, max-wires}
 use Rattle.model.specs.Block.{Gate, Wire}
 use Rattle.model.specs.Edition.{activity-of}
-use Rattle.model.specs.Netlist.{Netlist, gate-of, block-of}
+use Rattle.model.specs.Netlist.{DrawnGate, Netlist, gate-of, block-of}
 use Rattle.model.specs.Field.{number}
-use Rattle.model.specs.File.{block, says, in-range, found, read-field, read-gates, read-wires, decode, read-block, netlist}
+use Rattle.model.specs.File.{block, says, in-range, Reading, found, read-field, read-gates, read-wires, decode, read-block, netlist}
 use Rattle.model.specs.Answer.{refusal, refusal-answer}
 use Rattle.model.proofs.Limited.{header-limits}
 use Rattle.model.proofs.Reading.{read-gates-inside, decode-block-refused, decode-gates-refused, decode-wires-refused, decode-found}
@@ -20,6 +20,14 @@ use Rattle.fields.specs.Behind.{offset-behind}
 use Rattle.blockfile.specs.Reads.{refusing, reading-map}
 use Rattle.blockfile.proofs.Judged.{Judged, judged-refused, judged-fits, judged-found, judged-inside, judged-ranges}
 use Rattle.blockfile.proofs.Gates.{FoundBefore, map-found, map-refused}
+
+-- the gates that a file with this body of the block field gives from p on, ..
+abbrev drawn-gates : List ℕ → List ℕ → ℕ → Reading (List DrawnGate)
+drawn-gates s b p = read-gates (getD b 0 0) (getD b 1 0) s p
+
+-- .. and what they are in its edition
+abbrev as-gates : List ℕ → List DrawnGate → List Gate
+as-gates b = map (gate-of (getD b 0 0))
 
 -- what `decode` comes to, `read-block` does
 module _ (s : List ℕ) where
@@ -39,7 +47,7 @@ module _ {s : List ℕ} {m : ℕ} {b : List ℕ} (j : Judged block s 0 m b) wher
     pub eight-bytes : length b ≡ 8
     eight-bytes = eqb-true (length b) 8 (judged-fits j z)
 
-    pub gates-at-most : getD b 1 0 ≤ 64
+    pub gates-at-most : getD b 1 0 ≤ max-gates
     gates-at-most =
         let t : T (in-range block (says block b)) = rw (judged-ranges j z) tt in
         header-limits (says block b) t .gates-most
@@ -50,14 +58,14 @@ module _ {s : List ℕ} {m : ℕ} {b : List ℕ} (j : Judged block s 0 m b) wher
       header = rw behind (judged-found j z)
 
       -- a gate is refused
-      pub block-gates-refused : (x : Refusal) → refusing x ≡ reading-map (map (gate-of (getD b 0 0))) (read-gates (getD b 0 0) (getD b 1 0) s p) → refusing x ≡ read-block s
+      pub block-gates-refused : (x : Refusal) → refusing x ≡ reading-map (as-gates b) (drawn-gates s b p) → refusing x ≡ read-block s
       block-gates-refused x e =
           whole-refused s x
-          (decode-gates-refused s header (map-refused (map (gate-of (getD b 0 0))) (read-gates (getD b 0 0) (getD b 1 0) s p) (refusal-answer x .number) (getD (refusal-answer x .values) 0 0) e))
+          (decode-gates-refused s header (map-refused (as-gates b) (drawn-gates s b p) (refusal-answer x .number) (getD (refusal-answer x .values) 0 0) e))
 
-      module _ (gs : List Gate) (q : ℕ) (g : found gs q ≡ reading-map (map (gate-of (getD b 0 0))) (read-gates (getD b 0 0) (getD b 1 0) s p)) where
-        drawn : FoundBefore (map (gate-of (getD b 0 0))) (read-gates (getD b 0 0) (getD b 1 0) s p) gs q
-        drawn = map-found (map (gate-of (getD b 0 0))) (read-gates (getD b 0 0) (getD b 1 0) s p) gs q g
+      module _ (gs : List Gate) (q : ℕ) (g : found gs q ≡ reading-map (as-gates b) (drawn-gates s b p)) where
+        drawn : FoundBefore (as-gates b) (drawn-gates s b p) gs q
+        drawn = map-found (as-gates b) (drawn-gates s b p) gs q g
 
         -- the wires begin within the file
         pub wires-from : q ≤ length s

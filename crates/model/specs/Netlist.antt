@@ -5,7 +5,7 @@ use Prim.Native.Nat.{ℕ}
 use Rattle.model.specs.Block.{Step, Gate, Wire, Block}
 use Rattle.model.specs.Edition.{activity-of}
 
--- A gate field: drawn delay, the number of its output, steps.
+-- A gate field: drawn delay, the number for its output's switching, steps.
 pub record DrawnGate : Type 0 where
   pub delay : ℕ
   pub switching : ℕ
