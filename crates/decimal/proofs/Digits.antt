@@ -80,6 +80,10 @@ at-most (suc (suc c)) n h l =
 pub at-most-twenty : (n : ℕ) → n < 2 ^ 64 → length (digits n) ≤ 20
 at-most-twenty n h = at-most 20 n (omega arith) (omega arith)
 
+-- a tenth of a power of ten
+pub power-below : (p q : ℕ) → p ≡ suc q → 10 ^ p / 10 ≡ 10 ^ q
+power-below p q e = rw (e, pow-suc 10 q) (omega arith)
+
 one-at : (n : ℕ) → n < 10 → (k p : ℕ) → k + suc p ≡ length (digits n) → getD (digits n) k 0 ≡ digit-zero + n / 10 ^ p % 10
 one-at n h zero zero e = rw (one-digit n h, div-one n, mod-eq-of-lt h)
 one-at n h zero (suc p) e = absurd (omega (arith, length-one n h))

@@ -1,18 +1,24 @@
--- Laws of `placed` and `behind`: the two cases, the length, what stands before and behind, and one text behind another; digits do not fit exactly when the answer is the place itself.
+-- Laws of `placed` and `behind`: the two cases, the length, what stands before and behind, the text itself, and one text behind another; a text pasted byte by byte; digits do not fit exactly when the answer is the place itself.
 -- The idea: where the text fits, it is pasted whole.
 -- Assumes nothing.
 use mathlib.Core.Path.{_≡_, sym, _∙_, ap}
 use mathlib.Core.Logic.{_↔_, ⊎-elim}
 use mathlib.Core.List.{List, _++_, append-assoc}
 use Prim.Native.Nat.{ℕ, _+_, _<_, _≤_}
+use native.Mathlib.Numerals.{add-one}
 use native.Mathlib.Omega.{arith}
-use lib.ListN.{length, take, drop, length-append}
-use lib.Seq.{drop-drop, take-length, paste, length-paste, take-paste, drop-paste}
+use lib.ListN.{length, getD, set, take, drop, length-append}
+use lib.Seq.{drop-drop, drop-at, take-length, length-take-le, slice, paste, paste-suc, length-paste, take-paste, drop-paste}
 use borrow.Author.Tests.{le-leb, lt-leb}
 use Rattle.lists.proofs.Compare.{le-or-lt}
 use Rattle.model.specs.Printout.{digits}
 use Rattle.decimal.specs.Placed.{placed, behind}
 use Rattle.decimal.proofs.Digits.{some-digit}
+
+-- the bytes of a text before byte i pasted, and then byte i written
+pub paste-byte : (old : List ℕ) (at : ℕ) (text : List ℕ) (i : ℕ) {b : ℕ} → b ≡ getD text i 0 → at + i < length old → i < length text
+    → set (paste old at text i) (at + i) b ≡ paste old at text (i + 1)
+paste-byte old at text i e h l = rw (e, add-one i) (paste-suc old at text i 0 h l)
 
 module _ (text : List ℕ) (at : ℕ) (old : List ℕ) where
   pub placed-fits : at + length text ≤ length old → placed text at old ≡ take at old ++ text ++ drop (at + length text) old
@@ -60,6 +66,10 @@ module _ (text : List ℕ) (at : ℕ) (old : List ℕ) where
   drop-placed h =
       ap (λ (l : List ℕ). drop (at + length text) l) (placed-paste h)
       ∙ drop-paste old at text (length text) (omega arith) (omega arith)
+
+  -- the text stands between its place and the place behind it
+  pub slice-placed : at + length text ≤ length old → slice at (at + length text) (placed text at old) ≡ text
+  slice-placed h = ap (λ (l : List ℕ). drop at l) (take-placed h) ∙ drop-at (take at old) text at (length-take-le at old (omega arith))
 
 -- a text behind another is the two in one
 pub placed-behind : (a b : List ℕ) (at : ℕ) (old : List ℕ) → at + length (a ++ b) ≤ length old

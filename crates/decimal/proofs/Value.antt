@@ -1,22 +1,39 @@
--- That `digits` is the decimal notation: its bytes are digits, no needless 0 stands in front, the value of the digits is the number, and no other such digits have that value.
+-- That `digits` is the decimal notation, for every number: a list of bytes is its decimal digits (`DecimalOf`) exactly when it is `digits` of it (`exactly-digits`), and so is what `write_digits` writes (`comes-out`).
 -- The idea: induction by tenths for `digits`; for other digits, from the front on, each one more makes `digits` of the value so far longer by it.
 -- Assumes nothing.
 use mathlib.Core.Path.{_≡_, refl, sym, _∙_, ap}
-use mathlib.Core.Logic.{⊎-elim}
+use mathlib.Core.Logic.{_↔_, ⊎-elim}
 use mathlib.Core.List.{List, [], _∷_, _++_, append-nil, List·Memᴰ, List·Memᴰ·head, List·Memᴰ·tail, List·Memᴰ·append-cases, List·Memᴰ·eq-of-singleton}
 use Prim.Native.Nat.{ℕ, _+_, _-_, _*_, _/_, _%_, _<_, _≤_}
 use native.Mathlib.Omega.{arith}
 use lib.ListN.{length, getD, List·getD-append}
-use lib.Seq.{append-snoc}
+use lib.Seq.{append-snoc, slice}
 use Rattle.lists.proofs.Compare.{le-or-lt}
 use Rattle.model.specs.Printout.{digit-zero, digits}
+use Rattle.decimal.specs.Placed.{placed, behind}
 use Rattle.decimal.proofs.Digits.{by-tenths, one-digit, more-digits, length-one, some-digit}
+use Rattle.decimal.proofs.Placed.{behind-fits, behind-not, slice-placed}
 
 -- a byte that is one of the ten digits
 abbrev pub Digit : ℕ → Type 0
 Digit b = (digit-zero ≤ b) × (b ≤ digit-zero + 9)
 
-pub all-digits : (n b : ℕ) → List·Memᴰ b (digits n) → Digit b
+-- The value of digits, read from the front: ten times what stands before, and the digit.
+unfoldable pub value-after : ℕ → List ℕ → ℕ
+value-after v [] = v
+value-after v (d ∷ ds) = value-after (v * 10 + (d - digit-zero)) ds
+
+abbrev pub value : List ℕ → ℕ
+value ds = value-after 0 ds
+
+-- The decimal digits of n as a person writes them (document 02, K4): at least one, each of the ten, no 0 in front of others, and their value is n.
+pub record DecimalOf (n : ℕ) (ds : List ℕ) : Type 0 where
+  pub some : 1 ≤ length ds
+  pub all : (b : ℕ) → List·Memᴰ b ds → Digit b
+  pub front : 1 < length ds → digit-zero < getD ds 0 0
+  pub worth : value ds ≡ n
+
+all-digits : (n b : ℕ) → List·Memᴰ b (digits n) → Digit b
 all-digits n =
     by-tenths (λ (m : ℕ). (b : ℕ) → List·Memᴰ b (digits m) → Digit b)
     (λ (m : ℕ) (h : m < 10) (b : ℕ) (i : List·Memᴰ b (digits m)).
@@ -28,27 +45,19 @@ all-digits n =
     n
 
 -- no needless 0 stands in front
-pub front-above-zero : (n : ℕ) → 0 < n → digit-zero < getD (digits n) 0 0
+front-above-zero : (n : ℕ) → 0 < n → digit-zero < getD (digits n) 0 0
 front-above-zero =
     by-tenths (λ (m : ℕ). 0 < m → digit-zero < getD (digits m) 0 0)
     (λ (m : ℕ) (h : m < 10) (l : 0 < m). rw (one-digit m h) (omega arith))
     (λ (m : ℕ) (h : 10 ≤ m) (tenth : 0 < m / 10 → digit-zero < getD (digits (m / 10)) 0 0) (l : 0 < m).
     rw (more-digits m h, List·getD-append (digits (m / 10)) ((digit-zero + m % 10) ∷ []) 0 0 (some-digit (m / 10))) (tenth (omega arith)))
 
--- The value of digits, read from the front: ten times what stands before, and the digit.
-unfoldable pub value-after : ℕ → List ℕ → ℕ
-value-after v [] = v
-value-after v (d ∷ ds) = value-after (v * 10 + (d - digit-zero)) ds
-
-abbrev pub value : List ℕ → ℕ
-value ds = value-after 0 ds
-
 value-last : (v : ℕ) (ds : List ℕ) (d : ℕ) → value-after v (ds ++ d ∷ []) ≡ value-after v ds * 10 + (d - digit-zero)
 unfolding value-after
 value-last v [] d = refl
 value-last v (x ∷ ds) d = value-last (v * 10 + (x - digit-zero)) ds d
 
-pub value-digits : (n : ℕ) → value (digits n) ≡ n
+value-digits : (n : ℕ) → value (digits n) ≡ n
 unfolding value-after
 value-digits =
     by-tenths (λ (m : ℕ). value (digits m) ≡ m)
@@ -56,20 +65,18 @@ value-digits =
     (λ (m : ℕ) (h : 10 ≤ m) (tenth : value (digits (m / 10)) ≡ m / 10).
     rw (more-digits m h, value-last 0 (digits (m / 10)) (digit-zero + m % 10), tenth) (omega arith))
 
--- digits as a person writes them: at least one, each of the ten, and no 0 in front of others
-pub record Decimal (ds : List ℕ) : Type 0 where
-  pub some : 1 ≤ length ds
-  pub all : (b : ℕ) → List·Memᴰ b ds → Digit b
-  pub front : 1 < length ds → digit-zero < getD ds 0 0
+above-zero : (n : ℕ) → 1 < length (digits n) → 0 < n
+above-zero n h =
+    ⊎-elim (λ (l : 1 ≤ n). l) (λ (l : n < 1). absurd (omega (arith, length-one n (omega arith)))) (le-or-lt 1 n)
 
-pub digits-decimal : (n : ℕ) → Decimal (digits n)
+digits-decimal : (n : ℕ) → DecimalOf n (digits n)
 digits-decimal n =
     record {
       some = some-digit n;
       all = all-digits n;
       front = λ (h : 1 < length (digits n)).
-          front-above-zero n
-          (⊎-elim (λ (l : 1 ≤ n). l) (λ (l : n < 1). absurd (omega (arith, length-one n (omega arith)))) (le-or-lt 1 n));
+          omega (arith, front-above-zero n (above-zero n h));
+      worth = value-digits n;
     }
 
 digits-after : (v : ℕ) (ds : List ℕ) → 0 < v → ((b : ℕ) → List·Memᴰ b ds → Digit b) → digits (value-after v ds) ≡ digits v ++ ds
@@ -85,17 +92,35 @@ digits-after v (d ∷ ds) h all =
     ∙ rw (front, last) (append-snoc (digits v) d ds)
 
 -- no other digits have that value
-pub digits-value : (ds : List ℕ) → Decimal ds → digits (value ds) ≡ ds
+digits-value : (n : ℕ) (ds : List ℕ) → DecimalOf n ds → digits (value ds) ≡ ds
 unfolding value-after
-digits-value [] r = absurd (omega (arith, r .some))
-digits-value (d ∷ []) r =
+digits-value n [] r = absurd (omega (arith, r .some))
+digits-value n (d ∷ []) r =
     let is = r .all d (List·Memᴰ·head refl) in
     let e : digit-zero + (0 * 10 + (d - digit-zero)) ≡ d = omega arith in
     one-digit (0 * 10 + (d - digit-zero)) (omega arith) ∙ ap (λ (b : ℕ). b ∷ []) e
-digits-value (d ∷ e ∷ ds) r =
+digits-value n (d ∷ e ∷ ds) r =
     let is = r .all d (List·Memᴰ·head refl) in
-    let above : digit-zero < d = r .front (omega arith) in
+    let above : digit-zero < d = omega (arith, r .front (omega arith)) in
     let v : ℕ = 0 * 10 + (d - digit-zero) in
     let f : digit-zero + v ≡ d = omega arith in
     digits-after v (e ∷ ds) (omega arith) (λ (b : ℕ) (i : List·Memᴰ b (e ∷ ds)). r .all b (List·Memᴰ·tail i))
     ∙ rw (one-digit v (omega arith), f)
+
+-- DOCUMENT 02, K4. "Show for every 64-bit number, 0 and the largest too, that exactly its decimal digits come out, with no needless 0 in front": bytes are the decimal digits of n exactly when they are `digits n`, whatever n. For 0 and the largest `digits-least` and `digits-largest` (Digits) have them byte by byte.
+pub exactly-digits : (n : ℕ) (ds : List ℕ) → DecimalOf n ds ↔ (ds ≡ digits n)
+exactly-digits n ds = (
+  (λ (r : DecimalOf n ds). sym (digits-value n ds r) ∙ ap digits (r .worth)),
+  (λ (e : ds ≡ digits n). rw (e) (digits-decimal n)),
+)
+
+-- The same of what `write_digits` answers and leaves: where it writes, the bytes from `at` to the place that it answers are the decimal digits of n, and no others are.
+pub comes-out : (n at : ℕ) (old new : List ℕ) (next : ℕ) → next ≡ behind (digits n) at old → new ≡ placed (digits n) at old
+    → at < next
+    → (ds : List ℕ) → DecimalOf n ds ↔ (ds ≡ slice at next new)
+comes-out n at old new next answer after wrote ds =
+    ⊎-elim
+    (λ (h : at + length (digits n) ≤ length old).
+    rw (answer, after, behind-fits (digits n) at old h, slice-placed (digits n) at old h) (exactly-digits n ds))
+    (λ (h : length old < at + length (digits n)). absurd (omega (arith, answer, behind-not (digits n) at old h)))
+    (le-or-lt (at + length (digits n)) (length old))
