@@ -102,7 +102,7 @@ more-at n h tenth k (suc p) e =
     ∙ ap (λ (q : ℕ). digit-zero + q % 10) (div-div-eq-div-mul n 10 (10 ^ p) ∙ ap (λ (d : ℕ). n / d) (sym (pow-succ' 10 p))))
 
 -- the digit with p digits behind it
-pub digit-before : (n k p : ℕ) → k + suc p ≡ length (digits n) → getD (digits n) k 0 ≡ digit-zero + n / 10 ^ p % 10
+digit-before : (n k p : ℕ) → k + suc p ≡ length (digits n) → getD (digits n) k 0 ≡ digit-zero + n / 10 ^ p % 10
 digit-before n =
     by-tenths (λ (m : ℕ). (k p : ℕ) → k + suc p ≡ length (digits m) → getD (digits m) k 0 ≡ digit-zero + m / 10 ^ p % 10)
     one-at

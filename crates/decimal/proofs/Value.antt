@@ -1,4 +1,4 @@
--- That `digits` is the decimal notation, for every number: a list of bytes is its decimal digits (`DecimalOf`) exactly when it is `digits` of it (`exactly-digits`), and so is what `write_digits` writes (`comes-out`).
+-- That `digits` is the decimal notation, for every number: a list of bytes is its decimal digits (`DecimalOf` of Decimal) exactly when it is `digits` of it (`exactly-digits`), and so is what `write_digits` writes (`comes-out`).
 -- The idea: induction by tenths for `digits`; for other digits, from the front on, each one more makes `digits` of the value so far longer by it.
 -- Assumes nothing.
 use mathlib.Core.Path.{_≡_, refl, sym, _∙_, ap}
@@ -10,28 +10,10 @@ use lib.ListN.{length, getD, List·getD-append}
 use lib.Seq.{append-snoc, slice}
 use Rattle.lists.proofs.Compare.{le-or-lt}
 use Rattle.model.specs.Printout.{digit-zero, digits}
+use Rattle.decimal.specs.Decimal.{Digit, value-after, value, DecimalOf}
 use Rattle.decimal.specs.Placed.{placed, behind}
 use Rattle.decimal.proofs.Digits.{by-tenths, one-digit, more-digits, length-one, some-digit}
 use Rattle.decimal.proofs.Placed.{behind-fits, behind-not, slice-placed}
-
--- a byte that is one of the ten digits
-abbrev pub Digit : ℕ → Type 0
-Digit b = (digit-zero ≤ b) × (b ≤ digit-zero + 9)
-
--- The value of digits, read from the front: ten times what stands before, and the digit.
-unfoldable pub value-after : ℕ → List ℕ → ℕ
-value-after v [] = v
-value-after v (d ∷ ds) = value-after (v * 10 + (d - digit-zero)) ds
-
-abbrev pub value : List ℕ → ℕ
-value ds = value-after 0 ds
-
--- The decimal digits of n as a person writes them (document 02, K4): at least one, each of the ten, no 0 in front of others, and their value is n.
-pub record DecimalOf (n : ℕ) (ds : List ℕ) : Type 0 where
-  pub some : 1 ≤ length ds
-  pub all : (b : ℕ) → List·Memᴰ b ds → Digit b
-  pub front : 1 < length ds → digit-zero < getD ds 0 0
-  pub worth : value ds ≡ n
 
 all-digits : (n b : ℕ) → List·Memᴰ b (digits n) → Digit b
 all-digits n =
