@@ -13,7 +13,8 @@ int main(void)
 {
     /* one gate of delay 5, p 128, step (2,3); deadline 8 */
     static const uint8_t one_gate[] = {1, 0, 8, 1, 1, 0, 0, 0, 8, 0, 128, 2, 0, 8, 0, 5, 0, 128, 0, 2, 0, 3};
-    /* edition 2: two gates of delay 1, p 128, step (4,3) each, joined by a wire of delay 4; deadline 9 */
+    /* edition 2: two gates of delay 1, p 128, step (4,3) each, joined by a wire of delay 4; deadline 9. Both gain the same,
+       so gate 0 gets all three ticks */
     static const uint8_t two_gates[] = {1, 0, 8, 2, 2, 0, 0, 0, 9, 0, 128, 2, 0, 8, 0, 1, 0, 128, 0, 4, 0, 3,
                                         2, 0, 8, 0, 1, 0, 128, 0, 4, 0, 3, 3, 0, 4, 0, 1, 0, 4};
     /* edition 3: the same gates, activity 258 of the input and 257 between them, a wire of delay 3; deadline 8 */
@@ -34,7 +35,7 @@ int main(void)
     right = right && sized.number == 0 && sized.place == 1 && sized.saving == 6 * 32768;
     right = right && bytes[0] == 0 && bytes[1] == 0 && bytes[2] == 0 && bytes[3] == 2 && bytes[4] == 9;
     right = right && delayed.number == 0 && delayed.place == 2 && delayed.saving == 9 * 32768;
-    right = right && both[3] == 0 && both[7] == 3;
+    right = right && both[3] == 3 && both[7] == 0;
     right = right && measured.number == 0 && measured.place == 2 && measured.saving == 9 * 258;
     right = right && measured_both[3] == 3 && measured_both[7] == 0;
     puts(right ? "header: 5 calls" : "header: wrong answer");

@@ -36,8 +36,9 @@ typedef struct {
    number that the file gives for the switching of the input, and of each gate's output, is its measured activity,
    transitions in 65,536 clock cycles, 0 to 65,535; up to edition 2 it is the probability p of a 1 in 256ths, and the
    activity is 2p(256 - p). If the file is accepted, the first 4n bytes of increases hold the best list: four bytes for each
-   gate in order, high byte first. The bytes beyond are unchanged, and all of them are if it is refused. 256 bytes are enough
-   for every block. A null pointer is allowed with length 0 only. The two areas may not overlap. The call keeps nothing,
+   gate in order, high byte first. Of lists that save as much, the best is the one with the smaller increase at the highest
+   gate at which they differ. The bytes beyond are unchanged, and all of them are if it is refused. 256 bytes are enough for
+   every block. A null pointer is allowed with length 0 only. The two areas may not overlap. The call keeps nothing,
    allocates nothing and always returns. */
 honduvi_answer honduvi_best_increases(const uint8_t *file, size_t file_len, uint8_t *increases, size_t increases_len);
 

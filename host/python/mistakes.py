@@ -79,6 +79,11 @@ def all_or_one(lines, wrong):
         yield lines[:at] + [wrong[at]] + lines[at + 1 :]
 
 
+def different(lines, each):
+    """Those that are not the lines themselves."""
+    return (some for some in each if some != lines)
+
+
 def wrong_delays(case, lines):
     """The lines of a case, each time with all of them, or one of them, as mistaken wire delays would give them, where that
     makes a difference."""
@@ -86,7 +91,7 @@ def wrong_delays(case, lines):
         each = list(all_or_one(lines, case.lines_with(other)))
         for slacks in wrong_slacks(case.block, other):
             each.append(lines[:1] + ["slacks %s kept" % " ".join(map(str, slacks))] + lines[2:])
-        yield from (some for some in each if some != lines)
+        yield from different(lines, each)
 
 
 def as_it_is(number):
@@ -117,4 +122,10 @@ def wrong_activities(case, lines, mistaken):
     that makes a difference."""
     other = copy(case.block)
     other.activity = case.block.input_activities(*mistaken)
-    yield from (some for some in all_or_one(lines, case.lines_with(other)) if some != lines)
+    yield from different(lines, all_or_one(lines, case.lines_with(other)))
+
+
+def wrong_order(case, lines, best):
+    """The lines of a case, each time with all of them, or one of them, as another best list would give them, where that makes a
+    difference."""
+    yield from different(lines, all_or_one(lines, case.lines_with(case.block, best)))

@@ -1,13 +1,13 @@
-"""A second reader of document 01, and of K1, K2 and K3 in document 02, in another language: holds the stored cases to them.
+"""A second reader of document 01, and of K1, K2, K3 and K8 in document 02, in another language: holds the stored cases to them.
 
 second_opinion.py DIR reads DIR/stdin and DIR/stdout as host/CASES.md describes them. Which lines there are, refusals, slacks
 and judging are checked for every case, the place of 11 by taking gates away and merging wires in several orders; the best list
 and the curve of small blocks by trying everything. Of a larger block's curve are checked start, count, widths, falling gains,
 its length and what all of it earns, which no search is needed for; of its best list that it is in time, saves what is stated
-and what the curve says, and slows no gate that gains nothing.
+and what the curve says, slows no gate that gains nothing, and comes before those as good with one tick moved to another gate.
 At the end mistakes are put into the lines of some larger blocks, given an answer or refused with 11, and into those of some
-blocks with wire delays or with measured activities the lines that mistaken delays or activities would give (mistakes.py); each
-must be noticed.
+blocks with wire delays or with measured activities the lines that mistaken delays or activities would give, and into those of
+some blocks with ties the lines of a best list that comes later (mistakes.py); each must be noticed.
 """
 
 import itertools
@@ -18,7 +18,7 @@ from pathlib import Path
 from random import Random
 
 from editions import MOST_ACTIVITY, MOST_SWITCHING, WIRE_LENGTH, activity, is_measured
-from mistakes import ACTIVITY_MISTAKES, wrong_activities, wrong_answers, wrong_delays, wrong_lines, wrong_places
+from mistakes import ACTIVITY_MISTAKES, wrong_activities, wrong_answers, wrong_delays, wrong_lines, wrong_order, wrong_places
 
 MOST_LISTS = 2_000
 MOST_WIRES = 8
@@ -167,6 +167,28 @@ class Block:
     def widths(self, g):
         return sum(w for w, _ in self.steps[g])
 
+    def gain(self, g, ticks):
+        """The gain of the tick that comes after so many at a gate; None beyond its widths."""
+        for width, drop in self.steps[g]:
+            if ticks < width:
+                return drop * self.activity[g]
+            ticks -= width
+        return None
+
+    def moves(self, increases, whither):
+        """The lists that save as much with one tick moved from a gate to one of those that whither(gate) names, where they are
+        in time."""
+        free = [self.gain(g, increases[g]) for g in range(self.n)]
+        for g in range(self.n):
+            taken = self.gain(g, increases[g] - 1) if increases[g] else None
+            for other in whither(g):
+                if taken is not None and free[other] == taken:
+                    moved = list(increases)
+                    moved[g] -= 1
+                    moved[other] += 1
+                    if self.arrival + self.longest(moved) <= self.deadline:
+                        yield moved
+
     def saving(self, increases):
         total = 0
         for g in range(self.n):
@@ -291,30 +313,51 @@ def lowest_left(n, wires):
     return min(ends.pop() - {0, n - 1}, default=None)
 
 
+def in_words(numbers):
+    return " ".join(map(str, numbers))
+
+
 def answer(call):
     try:
-        return " ".join(str(value) for value in call())
+        return in_words(call())
     except Refused as refused:
         return "refused %d %d" % refused.args
 
 
+def from_far_end(increases):
+    """What the order of ties compares: the increases from gate n - 1 downwards (document 02, K8)."""
+    return increases[::-1]
+
+
+def from_gate_0(increases):
+    """The same in document 01's order, before K8."""
+    return increases
+
+
 @lru_cache(maxsize=None)
-def best_and_curve(block):
-    """The best list in time and the curve, as words, from every list."""
+def tied_and_curve(block):
+    """The greatest saving in time, every list that has it, and the curve as words, from every list."""
     start = block.longest([0] * block.n)
-    best, savings = None, {}
+    most, tied, savings = 0, [], {}
     for increases, longest, saving in block.every_list():
         savings[longest - start] = max(savings.get(longest - start, 0), saving)
-        if block.arrival + longest <= block.deadline:
-            best = min(best, (-saving, increases)) if best else (-saving, increases)
+        if block.arrival + longest <= block.deadline and saving >= most:
+            tied = tied if saving == most else []
+            tied.append(increases)
+            most = saving
     gains, reached = [], savings[0]
     for k in range(1, max(savings) + 1):
         gains.append(max(savings.get(k, 0) - reached, 0))
         reached += gains[-1]
     pairs = [(len(list(run)), gain) for gain, run in itertools.groupby(gains) if gain]
     curve = [start, savings[0], len(pairs)] + [value for pair in pairs for value in pair]
-    words = "refused 12 0" if best is None else " ".join(map(str, (-best[0],) + best[1]))
-    return words, " ".join(map(str, curve))
+    return most, tied, in_words(curve)
+
+
+def best_list(block, order):
+    """Of all lists in time the one that saves most and, of those, comes first in this order, its saving in front, as words."""
+    saving, tied, _ = tied_and_curve(block)
+    return in_words((saving, *min(tied, key=order))) if tied else "refused 12 0"
 
 
 def settled(block):
@@ -327,7 +370,7 @@ def settled(block):
     if place is not None:
         return ("refused 11 %d" % place,) * 2
     if block.is_small():
-        return best_and_curve(block)
+        return best_list(block, from_far_end), tied_and_curve(block)[2]
     return "refused 12 0" if block.spare() < 0 else None, None
 
 
@@ -370,7 +413,7 @@ class Case:
         words = self.lines[name].split(" ")[:-1]
         self.hold(len(words) >= least and all(word.isdigit() for word in words), name, "numbers should stand here")
         numbers = list(map(int, words))
-        self.expect(name, " ".join(map(str, numbers)) + " kept")
+        self.expect(name, in_words(numbers) + " kept")
         return numbers
 
     def check(self):
@@ -389,7 +432,7 @@ class Case:
             best = short
         if min(self.lent_widths, self.lent_gains) < MOST_PAIRS:
             curve = "refused 10 512"
-        self.expect("slacks", (" ".join(map(str, self.block.slacks())) if given else short) + " kept")
+        self.expect("slacks", (in_words(self.block.slacks()) if given else short) + " kept")
         self.expect("curve", curve + " kept") if curve else self.check_curve()
         self.expect("best", best + " kept") if best else self.check_best()
         self.check_judging() if given else self.expect("judge", short)
@@ -419,6 +462,8 @@ class Case:
         if not self.lines["curve"].startswith("refused"):
             counted = counted_off(self.numbers("curve", 3), self.block.spare())
             self.hold(counted == saving, "best", "the curve says %d" % counted)
+        # with the tick at one of the gates below it would come first
+        self.hold(not any(self.block.moves(increases, range)), "best", "a tick belongs to a lower gate")
 
     def got_11(self):
         return all(self.lines[name].startswith("refused 11 ") for name in ("curve", "best"))
@@ -434,13 +479,26 @@ class Case:
         widths = self.numbers("curve", 3)[3::2]
         return len(widths) > 1 and 0 < self.block.spare() < sum(widths)
 
+    def later_list(self, small):
+        """A list as good as the best that comes later, as words, or None: the first in the order from gate 0, or, where not
+        everything was tried, one with a tick moved to a higher gate."""
+        if small:
+            words = best_list(self.block, from_gate_0)
+            return None if words + " kept" == self.lines["best"] else words
+        saving, *increases = self.numbers("best", 1)
+        later = next(self.block.moves(increases, lambda g: range(g + 1, self.block.n)), None)
+        return later and in_words([saving] + later)
+
     def kinds(self, small):
-        """The kinds of cases that it is one of, for the mistakes; small are those that were found by trying everything."""
+        """The kinds of cases that it is one of, for the mistakes; small are those that were found by trying everything. Those with
+        ties are for mistakes in their order alone."""
         if not small and self.got_11():
             return ["11"]
         if not (self.is_given() if small else self.has_to_choose()):
             return []
         size = "small" if small else "large"
+        if self.later_list(small):
+            return [size + ", tied"]
         has_delays, measured = any(self.block.wire_delay.values()), is_measured(self.block.edition)
         return [size] + has_delays * [size + ", delayed"] + measured * [size + ", measured"]
 
@@ -467,15 +525,15 @@ class Case:
             "largest": judged(self.gate, 2**32 - 1),
         }
 
-    def lines_with(self, block):
-        """The lines that another block of the same gates and wires would have. Of a larger one stay the best list, and of the
-        curve all but start."""
-        best, curve = settled(block)
-        best = best or self.lines["best"][: -len(" kept")]
+    def lines_with(self, block, best=None):
+        """The lines that another block of the same gates and wires would have, with this best list if one is given. Of a larger
+        block stay the best list, and of the curve all but start."""
+        right, curve = settled(block)
+        best = best or right or self.lines["best"][: -len(" kept")]
         start = block.longest([0] * block.n)
         curve = curve or " ".join([str(start)] + self.lines["curve"].split(" ")[1:-1])
         increases = [0] * block.n if best.startswith("refused") else list(map(int, best.split(" ")[1:]))
-        slacks = " ".join(map(str, block.slacks()))
+        slacks = in_words(block.slacks())
         lines = {"case": self.lines["case"], "slacks": slacks + " kept", "curve": curve + " kept", "best": best + " kept"}
         lines.update(self.judging(block, increases))
         return ["%s %s" % line for line in lines.items()]
@@ -540,6 +598,16 @@ def put_into_activities(last):
     return total
 
 
+def put_into_order(last):
+    """The same with best lists that come later in the order of ties, of smaller and larger blocks."""
+    total = 0
+    for small, kind in ((True, "small, tied"), (False, "large, tied")):
+        for stored in last(kind):
+            case = Case(*stored)
+            total += mistakes_noticed(stored, wrong_order(case, stored[2], case.later_list(small)))
+    return total
+
+
 def check_all(data, text):
     """Holds every record to the lines printed for it; then puts mistakes into some of the last cases of each kind."""
     count = tried = 0
@@ -557,8 +625,10 @@ def check_all(data, text):
             raise Wrong("there are too few blocks to put mistakes into: %s" % kind)
         return kinds[kind][-BLOCKS_MISTAKEN * BLOCKS_APART :: BLOCKS_APART]
 
-    said = "%d cases, %d of them by trying every list; %d mistakes put in were noticed, and %d of wire delays, %d of activities"
-    return said % (count, tried, put_into_lines(last), put_into_delays(last), put_into_activities(last))
+    said = "%d cases, %d of them by trying every list; %d mistakes put in were noticed, and %d of wire delays, %d of activities, "
+    said += "%d of the order of ties"
+    mistakes = put_into_lines(last), put_into_delays(last), put_into_activities(last), put_into_order(last)
+    return said % (count, tried, *mistakes)
 
 
 def main():

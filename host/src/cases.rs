@@ -4,6 +4,7 @@ mod groups;
 
 use crate::answers::{self, MAX_PAIRS};
 use crate::block::{decode, encode, Block, Refusal, MAX_GATES};
+use crate::generate::ties::has_ties;
 use crate::{parts, search};
 pub use groups::all;
 use std::fmt::{Display, Write};
@@ -50,6 +51,11 @@ impl Case {
         let twin = restated(block);
         assert_eq!(twin.edition, edition);
         Some(Case { file: encode(&twin), twin_of: Some(number), ..self.clone() })
+    }
+
+    /// Whether a best list is given that the order of ties decides.
+    pub fn has_ties(&self) -> bool {
+        answers::best_increases(&self.file, self.lent).is_ok() && decode(&self.file).is_ok_and(|block| has_ties(&block))
     }
 
     /// The record that the program reads.

@@ -20,13 +20,18 @@ pub struct Answer {
 /// The call on a file and a lent slice of bytes.
 pub type Call<'a> = &'a mut dyn FnMut(&[u8], &mut [u8]) -> Answer;
 
+/// The bytes of a list: four for each increase, high byte first.
+fn bytes_of(increases: &[u32]) -> Vec<u8> {
+    increases.iter().flat_map(|x| x.to_be_bytes()).collect()
+}
+
 /// What the call must return, and the bytes that it must write.
 pub fn expected(file: &[u8], lent: usize) -> (Answer, Vec<u8>) {
     match layout_call(file, lent) {
         Err(refusal) => (Answer { number: refusal.number, place: refusal.place, saving: 0 }, Vec::new()),
         Ok(best) => {
-            let bytes: Vec<u8> = best.increases.iter().flat_map(|x| x.to_be_bytes()).collect();
-            (Answer { number: 0, place: best.increases.len() as u32, saving: best.saving }, bytes)
+            let answer = Answer { number: 0, place: best.increases.len() as u32, saving: best.saving };
+            (answer, bytes_of(&best.increases))
         }
     }
 }
@@ -67,7 +72,7 @@ fn any_file(random: &mut Random) -> Vec<u8> {
 }
 
 /// How many files were compared, and how often each number came back; of the random files the places of 11, and how many
-/// of those that were sized have wire delays and measured activities.
+/// of those that were sized have wire delays, measured activities and ties.
 pub struct Compared {
     pub files: usize,
     pub numbers: [usize; 13],
@@ -83,6 +88,8 @@ pub fn complete(places: &[u32], sized: &Counted) -> Result<(), String> {
         "no random block with a wire delay above 0 was sized"
     } else if sized.measured == 0 {
         "no random block with measured activities was sized"
+    } else if sized.tied == 0 {
+        "no random block with ties was sized"
     } else {
         return Ok(());
     };

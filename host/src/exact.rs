@@ -6,8 +6,9 @@
 //! amount at its drawn delay; a wire lets any amount through at its delay. The flow at T fills the longest paths as long as
 //! they are longer than T.
 //! The lists of greatest saving are then exactly those that agree with that flow (complementary slackness), which says of
-//! each list only how far two times may lie apart; so the first of them in the order of ties is found gate after gate
-//! with shortest distances. No part, no series, no parallel occurs here: the block need not be series-parallel.
+//! each list only how far two times may lie apart; so the first of them in the order of ties is found gate after gate,
+//! from n - 1 down (document 02, K8), with shortest distances. No part, no series, no parallel occurs here: the block need
+//! not be series-parallel.
 
 use crate::apart::Apart;
 use crate::block::Block;
@@ -15,6 +16,26 @@ use crate::search::{Best, Curve};
 use crate::timing::{input_activity, saving, start};
 
 const UNBOUNDED: i64 = i64::MAX / 4;
+
+/// The order in which tied lists are compared: at one gate after another, the smaller increase at the first difference comes
+/// first.
+#[derive(Clone, Copy)]
+pub enum Order {
+    /// From gate n - 1 down (document 02, K8).
+    FarEnd,
+    /// From gate 0 on: document 01's order, before K8, kept to find blocks on which the two orders differ.
+    FromGate0,
+}
+
+impl Order {
+    /// The gates of a block of so many, in this order.
+    fn gates(self, count: usize) -> impl Iterator<Item = usize> {
+        (0..count).map(move |i| match self {
+            Order::FarEnd => count - 1 - i,
+            Order::FromGate0 => i,
+        })
+    }
+}
 
 /// An arc with what can still flow; its opposite is the arc of the other parity.
 struct Arc {
@@ -166,18 +187,18 @@ fn agreeing(flow: &Flow, time: i64) -> Apart {
 }
 
 /// Of the lists within `time` the one that saves most and, of those, comes first; `None` if there is no list.
-pub fn best_within(block: &Block, time: i64) -> Option<Best> {
+pub fn best_within(block: &Block, time: i64, order: Order) -> Option<Best> {
     if time < start(block) as i64 {
         return None;
     }
     let mut flow = Flow::empty(block);
     flow.fill(time);
     let mut apart = agreeing(&flow, time);
-    let mut increases = Vec::new();
-    for (g, gate) in block.gates.iter().enumerate() {
+    let mut increases = vec![0; block.gates.len()];
+    for g in order.gates(block.gates.len()) {
         let least = apart.least(2 * g, 2 * g + 1);
         apart.narrow(2 * g, 2 * g + 1, least);
-        increases.push(u32::try_from(least - i64::from(gate.delay)).expect("an increase"));
+        increases[g] = u32::try_from(least - i64::from(block.gates[g].delay)).expect("an increase");
     }
     let saving = saving(block, &increases);
     assert_eq!(saving as i64, flow.bound(time), "the list reaches the bound");
@@ -186,7 +207,12 @@ pub fn best_within(block: &Block, time: i64) -> Option<Best> {
 
 /// The best list under the block's own arrival and deadline.
 pub fn best(block: &Block) -> Option<Best> {
-    best_within(block, i64::from(block.deadline) - i64::from(block.arrival))
+    best_in_order(block, Order::FarEnd)
+}
+
+/// The same in an order of ties.
+pub fn best_in_order(block: &Block, order: Order) -> Option<Best> {
+    best_within(block, i64::from(block.deadline) - i64::from(block.arrival), order)
 }
 
 /// The curve of a block of which the best savings have one (every series-parallel block).

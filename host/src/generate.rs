@@ -2,13 +2,15 @@
 
 pub mod editions;
 pub mod limits;
+pub mod ties;
 
-use crate::block::{encode, stands_in, Block, Gate, Step, Wire};
-use crate::block::{MAX_DELAY, MAX_DROP, MAX_GATES, MAX_TIME, MAX_WIDTH, MAX_WIRES};
+use crate::block::{stands_in, Block, Gate, Step, Wire};
+use crate::block::{MAX_DELAY, MAX_DROP, MAX_TIME, MAX_WIDTH, MAX_WIRES};
 use crate::random::Random;
-use crate::{exact, merging, network, timing};
+use crate::{network, timing};
 use editions::{delay_wires, in_any_edition, set_activities};
 use std::iter::repeat_with;
+use ties::any_tied_block;
 
 /// What the numbers of a block are like.
 #[derive(Clone, Copy, Debug, PartialEq)]
@@ -325,16 +327,13 @@ pub fn bridged_block(random: &mut Random, most_gates: usize) -> Block {
     block(random, Wires::Bridged, values, gates, most_steps)
 }
 
-/// A block of any kind in any edition, every eighth one with a bridge, so that 11 comes at many places.
+/// A block of any kind in any edition: every eighth one with a bridge, so that 11 comes at many places, and as many made for
+/// ties.
 pub fn compared_block(random: &mut Random, most_gates: usize) -> Block {
-    let block = if random.chance(1, 8) { bridged_block(random, most_gates) } else { any_block(random, most_gates) };
+    let block = match random.below(8) {
+        0 => bridged_block(random, most_gates),
+        1 => return any_tied_block(random, most_gates),
+        _ => any_block(random, most_gates),
+    };
     in_any_edition(random, block)
-}
-
-/// Whether a list later in the order of ties saves as much as the best: list merging, which heeds no order, returns one.
-pub fn has_ties(block: &Block) -> bool {
-    let mut merged = [0; MAX_GATES];
-    let found = merging::best_increases(&encode(block), &mut merged);
-    let best = exact::best(block).map(|b| b.increases);
-    found.is_ok() && best.map_or(false, |b| b != merged[..b.len()])
 }

@@ -1,4 +1,4 @@
-//! A second implementation of document 01 and of document 02's K1, K2 and K3, written from their text: it says what the
+//! A second implementation of document 01 and of document 02's K1, K2, K3 and K8, written from their text: it says what the
 //! library under test should answer.
 
 pub mod answers;

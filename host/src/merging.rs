@@ -1,6 +1,7 @@
 //! The paper's list merging (001, section 2.3) with its way back, from file bytes to increases: what the benchmark
 //! compares with. Plain Rust, written for speed as one would without proof: arrays of fixed size, one growing store for
-//! the lists, gates taken away from a work list. Of equally good lists it returns any.
+//! the lists, gates taken away from a work list. Of equally good lists it returns the first in the order of ties (document 02,
+//! K8).
 
 mod lists;
 mod netlist;
@@ -10,7 +11,7 @@ use crate::block::{refuse, Refusal, MAX_GATES};
 use netlist::Netlist;
 use tree::Tree;
 
-/// Writes the increases of a best list in time; returns the gate count and the saving.
+/// Writes the increases of the best list in time; returns the gate count and the saving.
 pub fn best_increases(file: &[u8], increases: &mut [u32; MAX_GATES]) -> Result<(usize, u64), Refusal> {
     let netlist = Netlist::read(file)?;
     netlist.check_network()?;

@@ -66,9 +66,9 @@ impl Lists {
         *self.lasts.iter().max().expect("a block has a path")
     }
 
-    /// The list that follows: one tick more at the first gate that has one left, none at the gates before it.
+    /// The list that follows: one tick more at the last gate that has one left, none at the gates behind it.
     fn next(&mut self) -> bool {
-        for (g, gains) in self.gains.iter().enumerate() {
+        for (g, gains) in self.gains.iter().enumerate().rev() {
             let increase = self.increases[g];
             if let Some(gain) = gains.get(increase as usize) {
                 self.increases[g] += 1;
@@ -84,9 +84,10 @@ impl Lists {
     }
 }
 
-/// The order of ties: the smaller increase at the first difference comes first.
+/// The order of ties (document 02, K8): compared from gate n - 1 downwards, the list with the smaller increase at the first
+/// difference comes first.
 fn comes_before(one: &[u32], other: &[u32]) -> bool {
-    for (a, b) in one.iter().zip(other) {
+    for (a, b) in one.iter().zip(other).rev() {
         if a != b {
             return a < b;
         }
@@ -161,6 +162,16 @@ mod tests {
     use crate::random::Random;
     use crate::timing;
     use std::collections::HashSet;
+
+    #[test]
+    fn the_highest_gate_that_differs_decides() {
+        let in_order: [[u32; 3]; 6] = [[9, 9, 0], [0, 0, 1], [1, 0, 1], [0, 1, 1], [4, 2, 2], [2, 4, 2]];
+        for (i, one) in in_order.iter().enumerate() {
+            for (j, other) in in_order.iter().enumerate() {
+                assert_eq!(comes_before(one, other), i < j, "{one:?} {other:?}");
+            }
+        }
+    }
 
     #[test]
     fn every_list_comes_once_with_its_longest_path_and_its_saving() {

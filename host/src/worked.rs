@@ -1,9 +1,10 @@
-//! The blocks that document 01 tries by hand, with the answers that it gives for them; for the bridge, which document 02's
-//! K1 changes, the answer given there. Numbers that are left open (some savings, some delays) are worked out by hand, and
-//! so are the answers of some blocks with wire delays and with measured activities (document 02, K2 and K3); no answer
-//! comes from a program.
+//! The blocks that document 01 tries by hand, with the answers that it gives for them; for the bridge and the chain of two,
+//! which document 02's K1 and K8 change, the answers given there. Numbers that are left open (some savings, some delays) are
+//! worked out by hand, and so are the answers of some blocks with wire delays, with measured activities and with ties
+//! (document 02, K2, K3 and K8); no answer comes from a program.
 
 pub mod edition_3;
+pub mod ties;
 
 use crate::block::{encode, Block};
 use crate::generate::editions::delay_wires;
@@ -182,7 +183,7 @@ fn delayed_wires() -> Vec<Worked> {
         gate 2 delay 1 p 128\nwires 0-1 1-2 0-2:4\n";
     let exact = "gates 2 wires 1\nstart 5 spare 0\nsaving 0\n0 1 0 0\n1 1 0 0\n";
     vec![
-        worked("chain of two, deadline 8, wire delay 3", chain_of_two(8, "0-1:3"), vec![Best(&[0, 3], 9 * U)]),
+        worked("chain of two, deadline 8, wire delay 3", chain_of_two(8, "0-1:3"), vec![Best(&[3, 0], 9 * U)]),
         worked(
             "chain of two with spare 0 by its wire delay",
             chain_of_two(5, "0-1:3"),
@@ -213,6 +214,7 @@ pub fn all() -> Vec<Worked> {
     let mut all = edition_1();
     all.extend(edition_2());
     all.extend(edition_3::all());
+    all.extend(ties::all());
     all
 }
 
@@ -224,8 +226,8 @@ pub fn edition_1() -> Vec<Worked> {
     let mut all = vec![worked("empty file", Vec::new(), vec![Refused(1, 0), Printed("refused 1 0\n")])];
     all.extend(diamonds());
     all.push(worked("one gate", file(lone), vec![Best(&[2], 6 * U)]));
-    all.push(worked("chain of two, deadline 5", chain_of_two(5, "0-1"), vec![Best(&[0, 3], 9 * U)]));
-    all.push(worked("chain of two, deadline 8", chain_of_two(8, "0-1"), vec![Best(&[2, 4], 18 * U)]));
+    all.push(worked("chain of two, deadline 5", chain_of_two(5, "0-1"), vec![Best(&[3, 0], 9 * U)]));
+    all.push(worked("chain of two, deadline 8", chain_of_two(8, "0-1"), vec![Best(&[4, 2], 18 * U)]));
     let bridge = only_wires(4, "0-1 0-2 1-2 1-3 2-3");
     all.push(worked("bridge", bridge, vec![Refused(11, 1), Printed("refused 11 1\n")]));
     all.push(worked("a wire beside a chain", only_wires(3, "0-1 1-2 0-2"), vec![SeriesParallel]));

@@ -2,11 +2,12 @@
 -- `WellFormed file B`: the file holds the block B, and none of the refusals 1 to 9 fits it. It and the lengths of the lent slices are all that a theorem asks for.
 -- Assumes nothing.
 use mathlib.Core.Path.{_≡_}
-use mathlib.Core.Logic.{_↔_, _⊎_, inl, inr, ⊎-elim}
+use mathlib.Core.Logic.{_↔_, _≢_, _⊎_, inl, inr, ⊎-elim}
 use mathlib.Core.List.{List, [], _∷_, List·Memᴰ}
 use Prim.Native.Nat.{ℕ, _+_, _*_, _≤_, _<_}
+use native.Mathlib.Omega.{arith}
 use lib.IntN.{ℤ, pos, _-ℤ_}
-use lib.ListN.{length, take, drop}
+use lib.ListN.{length, getD, take, drop}
 use Rattle.lists.specs.Over.{build, over}
 use Rattle.lists.specs.Search.{Lowest}
 use Rattle.lists.proofs.Compare.{le-or-lt}
@@ -17,6 +18,7 @@ use Rattle.model.specs.File.{Limited, found, decode, encode}
 use Rattle.model.specs.Path.{Longest}
 use Rattle.model.specs.Gain.{saving}
 use Rattle.model.specs.InTime.{drawn, InTime, IsStart}
+use Rattle.model.specs.Ties.{Before}
 use Rattle.model.specs.Best.{Best}
 use Rattle.model.specs.Part.{Shape, Whole, SeriesParallel, lone, built}
 use Rattle.model.specs.Slack.{source-delay, required-time, slack, start}
@@ -27,6 +29,7 @@ use Rattle.model.specs.Answer.{Outcome, Slices, accepted, refusal, Line, Judged
 use Rattle.model.proofs.Reading.{read-block-found}
 use Rattle.model.proofs.File.{encode-decodes}
 use Rattle.model.proofs.Editions.{Agree, same-block-read}
+use Rattle.model.proofs.Ties.{before-exactly}
 use Rattle.model.proofs.Slack as paths
 use Rattle.model.proofs.Answer.{ill-unique, eleven-unique}
 use Rattle.parts.proofs.Remainder.{same-gates-left}
@@ -203,3 +206,14 @@ pub same-answers : {s t : List ℕ} {M N : Netlist} {m n : ℕ} → decode s ≡
 same-answers {s} {t} d e a lent further o =
     let r = same-block-read s t d e a in
     (same-outcomes further (r .0) (r .1), same-outcomes further (r .1) (r .0))
+
+-- DOCUMENT 02, K8. "Compare tied lists from gate n − 1 downwards; the smaller increase at the first difference comes first": every other list in time that saves as much as the best has a greater increase at some gate, and the same at every gate above.
+pub ties-from-the-far-end : {B : Block} {x y : List ℕ} → Best B x → InTime B y → saving B y ≡ saving B x → y ≢ x
+    → (g : ℕ) × (g < gate-count B) × (getD x g 0 < getD y g 0) × ((h : ℕ) → g < h → getD x h 0 ≡ getD y h 0)
+ties-from-the-far-end {B} {x} {y} best ok as-much other =
+    let (e, g, l, smaller, same) = before-exactly x y .0 (tied (best .beats y ok other)) in
+    (g, omega (arith, ok .one-each), smaller, same)
+  where
+    tied : (saving B y < saving B x) ⊎ ((saving B y ≡ saving B x) × Before x y) → Before x y
+    tied (inl less) = absurd (omega arith)
+    tied (inr (_, before)) = before

@@ -1,18 +1,18 @@
 -- A list of n increases below B is a number of n digits in base B, gate g's digit at the place `rank`: of two such lists, the one with the smaller number comes first in the order of ties.
 -- Assumes nothing.
-use mathlib.Core.Path.{_≡_, refl, _∙_, ap}
+use mathlib.Core.Path.{_≡_, refl, sym, _∙_, ap}
 use mathlib.Core.Logic.{_⊎_, inl, inr}
 use mathlib.Core.List.{List, [], _∷_}
-use Prim.Native.Nat.{ℕ, zero, suc, _+_, _*_, _-_, _^_, _≤_, _<_}
-use native.Mathlib.Nat.{suc-mul, pow-zero, pow-succ', mul-le-mul-right, suc-inj, le-refl, eq-or-lt-of-le}
-use native.Mathlib.Decide.{decLt}
+use Prim.Native.Nat.{ℕ, zero, suc, _+_, _*_, _^_, _≤_, _<_}
+use native.Mathlib.Nat.{suc-mul, mul-one, mul-comm, mul-assoc, pow-zero, pow-succ', mul-le-mul-right, suc-inj, le-refl, eq-or-lt-of-le}
+use native.Mathlib.Decide.{decLe}
 use native.Mathlib.Omega.{arith}
 use lib.ListN.{length, getD}
 use Rattle.lists.specs.Sum.{sum}
 use Rattle.lists.proofs.Sum.{sum-same}
-use Rattle.model.specs.Ties.{Before, less, same}
+use Rattle.model.specs.Ties.{Before, behind, here}
 use Rattle.optimum.specs.Head.{rank}
-use Rattle.optimum.proofs.Sums.{sum-front}
+use Rattle.optimum.proofs.Sums.{sum-front, sum-mul}
 
 module _ (B : ℕ) where
   -- the number that the list writes
@@ -24,13 +24,23 @@ module _ (B : ℕ) where
     pub length-is : length x ≡ n
     pub below : (g : ℕ) → g < n → getD x g 0 < B
 
-  number-cons : (n a : ℕ) (x : List ℕ) → number (suc n) (a ∷ x) ≡ a * B ^ n + number n x
+  number-cons : (n a : ℕ) (x : List ℕ) → number (suc n) (a ∷ x) ≡ a + number n x * B
   unfolding number
   number-cons n a x =
-      let place : suc n - 1 - 0 ≡ n = omega arith in
-      sum-front n (λ (g : ℕ). getD (a ∷ x) g 0 * B ^ rank (suc n) g)
-      ∙ rw
-      place (ap (λ (r : ℕ). a * B ^ n + r) (sum-same n _ _ (λ g l. ap (λ (r : ℕ). getD x g 0 * B ^ r) (omega arith))))
+      let first : rank (suc n) 0 ≡ 0 = omega arith in
+      let digit : a * B ^ rank (suc n) 0 ≡ a = ap (λ (r : ℕ). a * B ^ r) first ∙ rw (pow-zero, mul-one) refl in
+      omega (arith, sum-front n (λ (g : ℕ). getD (a ∷ x) g 0 * B ^ rank (suc n) g), digit, others)
+    where
+      further : (g : ℕ) → getD x g 0 * B ^ rank (suc n) (suc g) ≡ getD x g 0 * B ^ rank n g * B
+      further g =
+          let next : rank (suc n) (suc g) ≡ suc (rank n g) = omega arith in
+          ap (λ (r : ℕ). getD x g 0 * B ^ r) next
+          ∙ rw (pow-succ' B (rank n g), mul-comm B (B ^ rank n g)) (sym (mul-assoc (getD x g 0) (B ^ rank n g) B))
+
+      others : sum n (λ (g : ℕ). getD x g 0 * B ^ rank (suc n) (suc g)) ≡ sum n (λ (g : ℕ). getD x g 0 * B ^ rank n g) * B
+      others =
+          sum-same n _ (λ (g : ℕ). getD x g 0 * B ^ rank n g * B) (λ g l. further g)
+          ∙ sum-mul n B (λ (g : ℕ). getD x g 0 * B ^ rank n g)
 
   digits-tail : (n a : ℕ) (x : List ℕ) → Digits (suc n) (a ∷ x) → Digits n x
   digits-tail n a x d = record { length-is = suc-inj (d .length-is); below = λ g l. d .below (suc g) (omega arith) }
@@ -40,10 +50,10 @@ module _ (B : ℕ) where
   number-below zero x d = rw pow-zero (le-refl 1)
   number-below (suc n) [] d = absurd (omega (arith, d .length-is))
   number-below (suc n) (a ∷ x) d =
-      rw (number-cons n a x, pow-succ' B n) (omega (
+      rw (number-cons n a x, pow-succ' B n, mul-comm B (B ^ n)) (omega (
         arith,
-        number-below n x (digits-tail n a x d),
-        simp suc-mul at (mul-le-mul-right (B ^ n) (d .below 0 (omega arith))),
+        d .below 0 (omega arith),
+        simp suc-mul at (mul-le-mul-right B (number-below n x (digits-tail n a x d))),
       ))
 
   pub smaller-is-before : (n : ℕ) (x y : List ℕ) → Digits n x → Digits n y → number n x ≤ number n y → (x ≡ y) ⊎ Before x y
@@ -53,27 +63,21 @@ module _ (B : ℕ) where
   smaller-is-before (suc n) [] y dx dy l = absurd (omega (arith, dx .length-is))
   smaller-is-before (suc n) (a ∷ x) [] dx dy l = absurd (omega (arith, dy .length-is))
   smaller-is-before (suc n) (a ∷ x) (b ∷ y) dx dy l =
-      go (decLt a b) (smaller-is-before n x y (digits-tail n a x dx) (digits-tail n b y dy))
+      go (decLe (number n x) (number n y)) (smaller-is-before n x y (digits-tail n a x dx) (digits-tail n b y dy))
     where
-      next : (x ≡ y) ⊎ Before x y → (a ∷ x ≡ a ∷ y) ⊎ Before (a ∷ x) (a ∷ y)
-      next (inl e) = inl (ap (λ (z : List ℕ). a ∷ z) e)
-      next (inr e) = inr (same e)
-
-      l′ : a * B ^ n + number n x ≤ b * B ^ n + number n y
+      l′ : a + number n x * B ≤ b + number n y * B
       l′ = rw (number-cons n a x, number-cons n b y) at l
 
-      equal : b ≤ a → (b ≡ a) ⊎ (b < a) → b ≡ a
-      equal h (inl e) = e
-      equal h (inr k) =
-          absurd (omega (
-            arith,
-            l′,
-            number-below n y (digits-tail n b y dy),
-            simp suc-mul at (mul-le-mul-right (B ^ n) k),
-          ))
+      last : x ≡ y → (a ≡ b) ⊎ (a < b) → (a ∷ x ≡ b ∷ y) ⊎ Before (a ∷ x) (b ∷ y)
+      last e (inl q) = inl (rw (q, e))
+      last e (inr k) = inr (rw e (here k))
 
-      go : Dec (a < b) → (number n x ≤ number n y → (x ≡ y) ⊎ Before x y) → (a ∷ x ≡ b ∷ y) ⊎ Before (a ∷ x) (b ∷ y)
-      go (yes h) rest = inr (less h)
+      next : (x ≡ y) ⊎ Before x y → (a ∷ x ≡ b ∷ y) ⊎ Before (a ∷ x) (b ∷ y)
+      next (inl e) = last e (eq-or-lt-of-le (omega (arith, rw e at l′)))
+      next (inr h) = inr (behind h)
+
+      go : Dec (number n x ≤ number n y) → (number n x ≤ number n y → (x ≡ y) ⊎ Before x y) → (a ∷ x ≡ b ∷ y) ⊎ Before (a ∷ x) (b ∷ y)
+      go (yes h) rest = next (rest h)
       go (no h) rest =
-          let e = equal (omega arith) (eq-or-lt-of-le (omega arith)) in
-          rw e (next (rest (omega (arith, rw e at l′))))
+          let k : suc (number n y) ≤ number n x = omega arith in
+          absurd (omega (arith, l′, dy .below 0 (omega arith), simp suc-mul at (mul-le-mul-right B k)))

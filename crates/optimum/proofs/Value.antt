@@ -167,8 +167,8 @@ module _ (B n : ℕ) where
   parallel-right P Q = within (parallel P Q) Q (λ g. omega arith) (omega arith)
 
 module _ (B n : ℕ) (positive : 0 < B) (h : ℕ → ℕ → Head) (heads : Heads n h) where
-  valued-gate : (g k : ℕ) → Valued B n (h g k) (value B n h g k) 1
-  valued-gate g k = go (eq-zero-or-pos (h g k .gain))
+  valued-gate : (g k : ℕ) → g < n → Valued B n (h g k) (value B n h g k) 1
+  valued-gate g k l = go (eq-zero-or-pos (h g k .gain))
     where
       go : (h g k .gain ≡ 0) ⊎ (0 < h g k .gain) → Valued B n (h g k) (value B n h g k) 1
       go (inl e) =
@@ -184,7 +184,7 @@ module _ (B n : ℕ) (positive : 0 < B) (h : ℕ → ℕ → Head) (heads : Head
           }
 
   pub ranked-gate : (g k : ℕ) → g < n → 1 < B → Ranked B n positive (h g k) (value B n h g k) 1 (λ (i : ℕ). i ≡ g)
-  ranked-gate g k l few = record { valued = valued-gate g k; few = few; source = λ pos. (g, refl, l, heads .ranked g k pos) }
+  ranked-gate g k l few = record { valued = valued-gate g k l; few = few; source = λ pos. (g, refl, l, heads .ranked g k pos) }
 
   -- the values of the items of a series part are in the order of their heads
   pub record Lined (a b c : Head) (p m q : ℕ) : Type 0 where

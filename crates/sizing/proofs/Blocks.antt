@@ -53,7 +53,7 @@ module _ {B : Block} {n : ℕ} {delays activities counts step-widths drops input
 
   head-is : (g k : ℕ) → (g < n) ⊎ (n ≤ g) → heads-in n counts step-widths drops inputs g k ≡ gate-head B g k
   unfolding heads-in gate-head step-head gain drop-of at
-  head-is g k (inl l) = rw (lt-ltb g n l, gate-is g l, as-many, held .activity g l)
+  head-is g k (inl l) = rw (lt-ltb g n l, gate-is g l, held .activity g l)
   head-is g k (inr l) = rw (le-ltb g n l, no-gate-there g l, zero-mul (input-activity B g))
 
   -- the heads from the arrays are those of the block's gates

@@ -46,11 +46,11 @@ fn rank_in(key: u64) -> u64
     RANKS - 1 - key % RANKS
 }
 
-// The rank of gate g among n gates; 0 where there is no gate g.
+// The rank of gate g among n gates. The direction of the order of ties stands in its definition alone.
 pub fn rank(n: u32, g: u32) -> u32
     ensures { λ r. ⌜ r ≡ ranking n g ⌝ }
 {
-    if g < n { n - 1 - g } else { 0 }
+    g
 }
 
 // Whether a comes before b: a greater gain, or the same gain and a smaller rank.

@@ -129,9 +129,9 @@ table =
     ∷ record { call = judge-list (diamond 10) (0 ∷ 6 ∷ 0 ∷ 0 ∷ 9 ∷ []); expected = refuses 13 1 (0 ∷ 6 ∷ 0 ∷ 0 ∷ 9 ∷ []) }
     -- "one gate, delay 5, step (2,3), deadline 8: increase 2, saving 6U"
     ∷ record { call = find-best one-gate (nines 2); expected = gives (6 * U ∷ 1 ∷ []) (2 ∷ 9 ∷ []) }
-    -- "chain of two, delays 1, steps (4,3) each: deadline 5 gives 0 3; 8 gives 2 4"
-    ∷ record { call = find-best (chain-of-two 5) (nines 3); expected = gives (9 * U ∷ 2 ∷ []) (0 ∷ 3 ∷ 9 ∷ []) }
-    ∷ record { call = find-best (chain-of-two 8) (nines 3); expected = gives (18 * U ∷ 2 ∷ []) (2 ∷ 4 ∷ 9 ∷ []) }
+    -- "chain of two, delays 1, steps (4,3) each", deadlines 5 and 8: "now gives 3 0 and 4 2" (document 02, K8)
+    ∷ record { call = find-best (chain-of-two 5) (nines 3); expected = gives (9 * U ∷ 2 ∷ []) (3 ∷ 0 ∷ 9 ∷ []) }
+    ∷ record { call = find-best (chain-of-two 8) (nines 3); expected = gives (18 * U ∷ 2 ∷ []) (4 ∷ 2 ∷ 9 ∷ []) }
     -- "wires 0-1, 0-2, 1-2, 1-3, 2-3: 11", whether the curve or the best increases are asked for; "the bridge case in document 01 now gives 11 with 1" (document 02, K1)
     ∷ record { call = find-best bridge (nines 5); expected = refuses 11 1 (nines 5) }
     ∷ record { call = find-curve bridge (nine-slices 513); expected = refuses 11 1 (nine-slices 513) }

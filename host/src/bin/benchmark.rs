@@ -101,7 +101,7 @@ fn print_ratios(cells: &[(usize, usize, Times)]) {
 }
 
 fn ratios() {
-    println!("ratio = library / plain Rust, microseconds a call: above 1 the library is slower. Plain Rust does not settle ties.");
+    println!("ratio = library / plain Rust, microseconds a call: above 1 the library is slower. Both settle ties.");
     println!("gates steps plain (us) library (us) ratio");
     let cells = measured(1);
     for (gates, steps, times) in &cells {

@@ -27,8 +27,10 @@ fn stored_cases() -> (Vec<u8>, String, String) {
     let cases = all();
     let searched = search_agrees(&cases);
     let (input, output) = written(&cases);
+    let tied = cases.iter().filter(|case| case.has_ties()).count();
     let elevens = elevens(&places_of_11(&output));
-    let said = format!("cases: {} blocks, {searched} of them also by exhaustive search; {elevens}", cases.len());
+    let searched = format!("cases: {} blocks, {searched} of them also by exhaustive search", cases.len());
+    let said = format!("{searched}; {elevens}; {tied} with ties");
     (input, output, said)
 }
 

@@ -1,17 +1,37 @@
 //! Which cases are stored, group after group.
 
-use super::{Case, MOST_LISTS};
-use crate::block::{encode, Block};
+use super::{Case, MOST_LISTS, MOST_WIRES};
+use crate::block::{encode, Block, MAX_WIRES};
 use crate::boundaries::{self, Boundary};
+use crate::edition::MAX_EDITION;
 use crate::generate::editions::{in_edition_3, set_activities, with_activities, with_wire_delays};
 use crate::generate::editions::{WireDelays, ALL_ACTIVITIES, ALL_WIRE_DELAYS};
-use crate::generate::{self, any_block, bridged_block, has_ties, Values, Wires, ALL_VALUES};
+use crate::generate::ties::{has_ties, tied_block};
+use crate::generate::{self, any_block, bridged_block, Values, Wires, ALL_VALUES};
 use crate::random::Random;
 use crate::worked::{self, Worked};
 use crate::{damage, exact, search, timing};
 
 /// Blocks that are looked at for one with ties.
 const MOST_TRIES: usize = 200;
+/// Of blocks of at most so many lists and wires host/python/second_opinion.py tries every list.
+const FEW_LISTS: u64 = 2_000;
+const FEW_WIRES: usize = 8;
+/// Blocks with ties of each edition.
+const TIED: usize = 100;
+
+/// A case of each file, with one gate after another as the one whose width is passed.
+fn of_files(files: impl Iterator<Item = Vec<u8>>) -> impl Iterator<Item = Case> {
+    files.enumerate().map(|(i, file)| Case::of(file, i))
+}
+
+fn of_worked(worked: Vec<Worked>) -> impl Iterator<Item = Case> {
+    of_files(worked.into_iter().map(|w| w.file))
+}
+
+fn of_boundaries(boundaries: Vec<Boundary>) -> impl Iterator<Item = Case> {
+    of_files(boundaries.into_iter().map(|b| b.file))
+}
 
 /// Slices of just enough elements and of one too few, for blocks that are in time, late, and not series-parallel.
 fn short_slices() -> Vec<Case> {
@@ -30,8 +50,7 @@ fn short_slices() -> Vec<Case> {
 
 /// A file cut at every byte, and with every byte changed.
 fn damaged(file: Vec<u8>) -> Vec<Case> {
-    let files = damage::every_cut(&file).into_iter().chain(damage::every_byte_changed(&file));
-    files.enumerate().map(|(i, file)| Case::of(file, i)).collect()
+    of_files(damage::every_cut(&file).into_iter().chain(damage::every_byte_changed(&file))).collect()
 }
 
 fn small_blocks(random: &mut Random) -> Vec<Case> {
@@ -77,8 +96,8 @@ fn measured(random: &mut Random, block: Block, kind: usize) -> Block {
     with_activities(random, block, ALL_ACTIVITIES[kind % 4])
 }
 
-/// A series-parallel block of 8 to 12 gates, no chain, with just so many lists that all of them can be tried; one of few
-/// different gains has ties, unless none comes in many tries because no two activities are equal.
+/// A series-parallel block of 8 to 12 gates, no chain, with just so many lists that all of them can be tried; in one of few
+/// different gains the order of ties decides, unless none such comes in many tries because no two activities are equal.
 fn searched_block(random: &mut Random, round: usize, change: Change) -> Block {
     let kind = if round % 4 == 0 { Wires::Wide } else { Wires::SeriesParallel };
     let values = [Values::Small, Values::Equal, Values::Exhausted][round % 3];
@@ -107,8 +126,8 @@ fn edition_1() -> Vec<Case> {
     let searched = &mut Random::from_seed(8_012);
     let bridged = &mut Random::from_seed(464);
     let mut cases: Vec<Case> = Vec::new();
-    cases.extend(worked::edition_1().into_iter().enumerate().map(|(i, w)| Case::of(w.file, i)));
-    cases.extend(boundaries::edition_1().into_iter().enumerate().map(|(i, b)| Case::of(b.file, i)));
+    cases.extend(of_worked(worked::edition_1()));
+    cases.extend(of_boundaries(boundaries::edition_1()));
     cases.extend(short_slices());
     cases.extend(damaged(encode(&worked::diamond(10))));
     cases.extend(small_blocks(random));
@@ -152,9 +171,7 @@ fn random_blocks(random: &mut Random, searched: &mut Random, change: Change) -> 
 
 /// Blocks worked out by hand, boundaries, and a file cut and changed at every byte.
 fn by_hand(worked: Vec<Worked>, boundaries: Vec<Boundary>, file: Vec<u8>) -> Vec<Case> {
-    let worked = worked.into_iter().enumerate().map(|(i, w)| Case::of(w.file, i));
-    let boundaries = boundaries.into_iter().enumerate().map(|(i, b)| Case::of(b.file, i));
-    worked.chain(boundaries).chain(damaged(file)).collect()
+    of_worked(worked).chain(of_boundaries(boundaries)).chain(damaged(file)).collect()
 }
 
 /// The cases that came with edition 2.
@@ -174,6 +191,39 @@ fn edition_3() -> Vec<Case> {
     cases
 }
 
+/// A block in an edition in which the order of ties decides. Two of five are so small that the second opinion tries every list,
+/// two that the exhaustive search does, and one has 12 to 64 gates. At most one of five is a chain.
+fn block_with_ties(random: &mut Random, edition: u8, round: usize) -> Block {
+    loop {
+        let (gates, most_lists, most_wires) = match round % 5 {
+            0 | 1 => (3 + random.below(5), FEW_LISTS, FEW_WIRES),
+            2 | 3 => (6 + random.below(7), MOST_LISTS, MOST_WIRES),
+            _ => (12 + random.below(53), u64::MAX, MAX_WIRES),
+        };
+        let block = tied_block(random, edition, gates);
+        let fits = search::count_of_lists(&block) <= most_lists && block.wires.len() <= most_wires;
+        let is_chain = block.wires.len() < gates;
+        if fits && (round % 5 == 0 || !is_chain) && has_ties(&block) {
+            return block;
+        }
+    }
+}
+
+/// The cases that came with the order of ties from gate n - 1 down (document 02, K8): blocks worked out by hand, and random
+/// blocks in every edition, each with another best list in the order before.
+fn ties() -> Vec<Case> {
+    let random = &mut Random::from_seed(8_015);
+    let mut cases: Vec<Case> = of_worked(worked::ties::all()).collect();
+    for round in 0..TIED {
+        for edition in 1..=MAX_EDITION {
+            let case = Case::of(encode(&block_with_ties(random, edition, round)), round);
+            assert!(case.has_ties(), "edition {edition}, round {round}");
+            cases.push(case);
+        }
+    }
+    cases
+}
+
 /// The cases once more in a later edition, but for those that are such already, and for those of files that cannot be read.
 fn twins(cases: &[Case], edition: u8, restated: fn(Block) -> Block) -> Vec<Case> {
     let first = cases.iter().enumerate().filter(|(_, case)| case.twin_of.is_none());
@@ -187,5 +237,6 @@ pub fn all() -> Vec<Case> {
     cases.extend(edition_2());
     cases.extend(twins(&cases, 3, in_edition_3));
     cases.extend(edition_3());
+    cases.extend(ties());
     cases
 }

@@ -2,6 +2,7 @@
 
 use super::*;
 use crate::block::{Block, Wire};
+use crate::exact::{best_in_order, Order};
 use crate::parts::gates_left;
 
 /// The reference itself, as a call.
@@ -32,8 +33,11 @@ fn without_random_files_it_fails() {
 
 #[test]
 fn without_a_random_file_of_each_kind_it_fails() {
-    let complete = |places: &[u32], delayed, measured| complete(places, &Counted { delayed, measured }).is_ok();
-    assert!(complete(&[1], 1, 1) && !complete(&[], 1, 1) && !complete(&[1], 0, 1) && !complete(&[1], 1, 0));
+    let complete = |places: &[u32], [delayed, measured, tied]: [usize; 3]| {
+        complete(places, &Counted { delayed, measured, tied }).is_ok()
+    };
+    assert!(complete(&[1], [1, 1, 1]) && !complete(&[], [1, 1, 1]));
+    assert!([[0, 1, 1], [1, 0, 1], [1, 1, 0]].iter().all(|&sized| !complete(&[1], sized)));
 }
 
 #[test]
@@ -222,16 +226,16 @@ fn wrong_bytes_are_noticed() {
     }));
 }
 
-/// A list that is as good but comes later in the order of ties is noticed.
+/// The best list in the order from gate 0, document 01's before document 02's K8: as good, but it comes later.
 #[test]
 fn another_order_of_ties_is_noticed() {
     assert!(noticed(&mut |file, lent| {
         let answer = right(file, lent);
-        let mut increases = [0; 64];
-        if answer.number == 0 && crate::merging::best_increases(file, &mut increases).is_ok() {
-            for g in 0..decode(file).expect("a block").gates.len() {
-                lent[4 * g..4 * g + 4].copy_from_slice(&increases[g].to_be_bytes());
-            }
+        if answer.number == 0 {
+            let block = decode(file).expect("a block");
+            let best = best_in_order(&block, Order::FromGate0).expect("a list in time");
+            let bytes = bytes_of(&best.increases);
+            lent[..bytes.len()].copy_from_slice(&bytes);
         }
         answer
     }));

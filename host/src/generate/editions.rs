@@ -1,6 +1,7 @@
 //! Random blocks in editions 2 and 3: delays of their wires (document 02, K2) and measured activities of their nets (K3).
 
 use super::set_times;
+use super::ties::has_ties;
 use crate::block::{Block, MAX_WIRE_DELAY};
 use crate::edition::{is_measured, max_activity, MAX_EDITION};
 use crate::random::Random;
@@ -112,22 +113,26 @@ pub fn in_any_edition(random: &mut Random, block: Block) -> Block {
     with_activities(random, block, activities)
 }
 
-/// How many of some blocks have wire delays above 0, and how many have measured activities.
+/// How many of some blocks have wire delays above 0, how many have measured activities, and in how many the order of ties
+/// decides.
 #[derive(Clone, Copy, Debug, Default)]
 pub struct Counted {
     pub delayed: usize,
     pub measured: usize,
+    pub tied: usize,
 }
 
 impl Counted {
     pub fn count(&mut self, block: &Block) {
         self.delayed += usize::from(block.is_delayed());
         self.measured += usize::from(is_measured(block.edition));
+        self.tied += usize::from(has_ties(block));
     }
 }
 
 impl Display for Counted {
     fn fmt(&self, f: &mut Formatter) -> Result {
-        write!(f, "{} with wire delays, {} with measured activities", self.delayed, self.measured)
+        let Counted { delayed, measured, tied } = self;
+        write!(f, "{delayed} with wire delays, {measured} with measured activities, {tied} with ties")
     }
 }

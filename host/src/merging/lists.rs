@@ -1,11 +1,29 @@
-//! Lists of widths and falling gains (001's DP lists) in one store, merged in series and in parallel.
+//! Lists of widths and falling gains (001's DP lists) in one store, merged in series and in parallel. Gain and order of ties
+//! are one number, a key, so that one comparison decides.
 
 use std::cmp::Ordering;
 
+/// The byte of a key that settles ties.
+const TIES: u64 = 255;
+
+/// Ticks that gain the same. The key is 256 times the gain, which stays far below 2^56, plus 255 minus the highest gate that
+/// they slow: a greater key is taken first, so of equal gains the one that spares the higher gate (document 02, K8). Parts in
+/// series have no gate in common, so no key stands in the lists of two of them.
 #[derive(Clone, Copy)]
 pub struct Pair {
     pub width: u64,
-    pub gain: u64,
+    key: u64,
+}
+
+impl Pair {
+    pub fn gain(&self) -> u64 {
+        self.key / (TIES + 1)
+    }
+}
+
+/// The key of two gates or parts slowed at once: the gains are added, and the smaller byte stays, that of the higher gate.
+fn both(one: u64, other: u64) -> u64 {
+    one + other - (one & TIES).max(other & TIES)
 }
 
 /// A list: a range of the store.
@@ -35,18 +53,19 @@ impl Store {
     }
 
     /// The list of a gate.
-    pub fn of_gate(&mut self, steps: &[(u16, u16)], activity: u32) -> List {
+    pub fn of_gate(&mut self, gate: usize, steps: &[(u16, u16)], activity: u32) -> List {
         if activity == 0 {
             return NONE;
         }
         let from = self.pairs.len();
         for &(width, drop) in steps {
-            self.pairs.push(Pair { width: u64::from(width), gain: u64::from(drop) * u64::from(activity) });
+            let gain = u64::from(drop) * u64::from(activity);
+            self.pairs.push(Pair { width: u64::from(width), key: gain * (TIES + 1) + TIES - gate as u64 });
         }
         self.since(from)
     }
 
-    /// Merged by falling gain, equal gains joined: the shorter list's pairs are put into the longer.
+    /// Merged by falling key: the shorter list's pairs are put into the longer.
     pub fn series(&mut self, one: List, other: List) -> List {
         let (short, long) = if one.to - one.from < other.to - other.from { (one, other) } else { (other, one) };
         if short.from == short.to {
@@ -56,26 +75,23 @@ impl Store {
         let (mut at, to) = (long.from as usize, long.to as usize);
         self.pairs.reserve(to - at + (short.to - short.from) as usize);
         for i in short.from as usize..short.to as usize {
-            let mut pair = self.pairs[i];
-            let before = at + self.pairs[at..to].partition_point(|p| p.gain > pair.gain);
+            let pair = self.pairs[i];
+            let before = at + self.pairs[at..to].partition_point(|p| p.key > pair.key);
             self.pairs.extend_from_within(at..before);
-            at = before;
-            if at < to && self.pairs[at].gain == pair.gain {
-                pair.width += self.pairs[at].width;
-                at += 1;
-            }
             self.pairs.push(pair);
+            at = before;
         }
         self.pairs.extend_from_within(at..to);
         self.since(from)
     }
 
-    /// Shares ticks out among three lists by falling gain; `merged` is what they were merged to.
+    /// Shares ticks out among three lists by falling key; `merged` is what they were merged to. The last key stands in one of
+    /// them only, which gets what the greater keys leave.
     pub fn shares(&self, ticks: u64, merged: List, lists: [List; 3]) -> [u64; 3] {
-        let (mut left, mut last_gain) = (ticks, 0);
+        let (mut left, mut last_key) = (ticks, 0);
         for pair in self.of(merged) {
             if left <= pair.width {
-                last_gain = pair.gain;
+                last_key = pair.key;
                 break;
             }
             left -= pair.width;
@@ -83,11 +99,9 @@ impl Store {
         lists.map(|list| {
             let mut share = 0;
             for pair in self.of(list) {
-                if pair.gain <= last_gain {
-                    if pair.gain == last_gain {
-                        let taken = left.min(pair.width);
-                        left -= taken;
-                        share += taken;
+                if pair.key <= last_key {
+                    if pair.key == last_key {
+                        share += left;
                     }
                     break;
                 }
@@ -103,11 +117,11 @@ impl Store {
         while left > 0 && at < list.to {
             let pair = self.pairs[at as usize];
             let taken = left.min(pair.width);
-            earned += taken * pair.gain;
+            earned += taken * pair.gain();
             left -= taken;
             if taken < pair.width {
                 let from = self.pairs.len();
-                self.pairs.push(Pair { width: pair.width - taken, gain: pair.gain });
+                self.pairs.push(Pair { width: pair.width - taken, ..pair });
                 self.pairs.extend_from_within(at as usize + 1..list.to as usize);
                 return (self.since(from), earned);
             }
@@ -116,21 +130,24 @@ impl Store {
         (List { from: at, to: list.to }, earned)
     }
 
-    /// 001's ParallelMerge.
+    /// 001's ParallelMerge. Equal keys, of a gate beside several of equal gain that are lower, are joined.
     pub fn parallel(&mut self, one: List, other: List) -> List {
-        if one.from == one.to {
-            return other;
-        }
-        if other.from == other.to {
-            return one;
+        if one.from == one.to || other.from == other.to {
+            return if one.from == one.to { other } else { one };
         }
         let from = self.pairs.len();
         let (mut i, mut j) = (one.from as usize, other.from as usize);
         let (mut p, mut q) = (self.pairs[i], self.pairs[j]);
         let (one_to, other_to) = (one.to as usize, other.to as usize);
+        let mut last_key = 0;
         while i < one_to && j < other_to {
-            let width = p.width.min(q.width);
-            self.pairs.push(Pair { width, gain: p.gain + q.gain });
+            let (width, key) = (p.width.min(q.width), both(p.key, q.key));
+            if key == last_key {
+                self.pairs.last_mut().expect("a pair of that key").width += width;
+            } else {
+                self.pairs.push(Pair { width, key });
+                last_key = key;
+            }
             let shorter = p.width.cmp(&q.width);
             p.width -= width;
             q.width -= width;
@@ -143,13 +160,11 @@ impl Store {
                 q = self.pairs[j];
             }
         }
-        if i < one_to {
-            self.pairs.push(p);
-            self.pairs.extend_from_within(i + 1..one_to);
-        }
-        if j < other_to {
-            self.pairs.push(q);
-            self.pairs.extend_from_within(j + 1..other_to);
+        for (rest, at, to) in [(p, i, one_to), (q, j, other_to)] {
+            if at < to {
+                self.pairs.push(rest);
+                self.pairs.extend_from_within(at + 1..to);
+            }
         }
         self.since(from)
     }

@@ -92,7 +92,7 @@ impl Tree<'_> {
         };
         let activities = netlist.input_activities();
         for gate in 0..n {
-            tree.of_gate[gate] = tree.store.of_gate(netlist.steps(gate), activities[gate]);
+            tree.of_gate[gate] = tree.store.of_gate(gate, netlist.steps(gate), activities[gate]);
         }
         let whole = if n == 1 { 0 } else { tree.reduce(netlist)? };
         let first = tree.series(0, 0, whole);
@@ -193,7 +193,7 @@ impl Tree<'_> {
         let mut left = spare;
         for pair in self.store.of(self.nodes[root].list) {
             let taken = left.min(pair.width);
-            saving += taken * pair.gain;
+            saving += taken * pair.gain();
             left -= taken;
         }
         for node in (0..self.count).rev() {

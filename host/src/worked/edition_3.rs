@@ -127,7 +127,7 @@ fn still_nets() -> Vec<Worked> {
 }
 
 /// The chain of two, deadline 5, with these activities of the input and of gate 0's output: 3 ticks for the gate that gains
-/// more, for the second if both gain the same.
+/// more, for the first if both gain the same.
 fn chain_of_two(input: u32, between: u32) -> Vec<u8> {
     file(&format!(
         "block arrival 0 deadline 5 activity {input}\ngate 0 delay 1 activity {between} steps (4,3)\n\
@@ -143,7 +143,7 @@ fn bytes() -> Vec<Worked> {
     vec![
         worked("256 at the input, 1 behind gate 0", chain_of_two(256, 1), vec![Best(&[3, 0], 2_304)]),
         worked("1 at the input, 256 behind gate 0", chain_of_two(1, 256), vec![Best(&[0, 3], 2_304)]),
-        worked("256 at the input and behind gate 0", chain_of_two(256, 256), vec![Best(&[0, 3], 2_304)]),
+        worked("256 at the input and behind gate 0", chain_of_two(256, 256), vec![Best(&[3, 0], 2_304)]),
         worked("257 at the input, 256 behind gate 0", chain_of_two(257, 256), vec![Best(&[3, 0], 2_313)]),
         worked("255 at the input, 256 behind gate 0", chain_of_two(255, 256), vec![Best(&[0, 3], 2_304)]),
         worked("2 at the input, 1 behind gate 0", chain_of_two(2, 1), vec![Best(&[3, 0], 18)]),

@@ -1,10 +1,11 @@
-//! Answers that were worked out by hand: document 01's, those of blocks with wire delays and with measured activities, and
-//! those at the boundaries of the refusals.
+//! Answers that were worked out by hand: document 01's, those of blocks with wire delays, with measured activities and with
+//! ties, and those at the boundaries of the refusals.
 
 use reference::answers;
 use reference::block::{decode, encode, Refusal, MAX_GATES};
 use reference::boundaries::{self, Boundary};
 use reference::generate::limits;
+use reference::search::Best;
 use reference::worked::{self, Expected, U};
 use reference::{exact, merging, parts, printout, search};
 
@@ -12,16 +13,25 @@ fn refusal<T>(answer: Result<T, Refusal>) -> Option<(u32, u32)> {
     answer.err().map(|r| (r.number, r.place))
 }
 
+/// Worked blocks of more lists are not held to the exhaustive search.
+const MOST_LISTS: u64 = 100_000;
+
+/// Whether this is the best list by flows, by list merging and, where there are not too many lists, by trying every one.
+fn is_best(file: &[u8], best: &Best) -> bool {
+    let block = decode(file).expect("a block");
+    let gates = best.increases.len();
+    let mut merged = [0; MAX_GATES];
+    answers::best_increases(file, MAX_GATES).as_ref() == Ok(best)
+        && merging::best_increases(file, &mut merged) == Ok((gates, best.saving))
+        && merged[..gates] == best.increases
+        && (search::count_of_lists(&block) > MOST_LISTS || search::best(&block).as_ref() == Some(best))
+}
+
 /// Whether a worked block gets the answer that was worked out.
 fn holds(file: &[u8], expected: &Expected) -> bool {
-    let best = || answers::best_increases(file, MAX_GATES).expect("best increases");
     let curve = || answers::curve(file, 512, 512).expect("a curve");
     match expected {
-        Expected::Best(increases, saving) => {
-            let block = decode(file).expect("a block");
-            let tried = search::best(&block).expect("a list in time");
-            best() == tried && tried.increases == *increases && tried.saving == *saving
-        }
+        Expected::Best(increases, saving) => is_best(file, &Best { increases: increases.to_vec(), saving: *saving }),
         Expected::AtStart(saving) => curve().at_start == *saving,
         Expected::Curve(start, at_start, pairs) => {
             let curve = curve();
@@ -89,7 +99,7 @@ pub fn check_counted_off() {
     for (spare, increases, saving) in by_hand {
         let block = worked::paper_chain(spare);
         assert_eq!(exact::curve(&block).counted_off(u64::from(spare)), saving * U);
-        let best = Some(search::Best { increases: increases.to_vec(), saving: saving * U });
+        let best = Some(Best { increases: increases.to_vec(), saving: saving * U });
         assert_eq!(exact::best(&block), best);
         assert_eq!(search::best(&block), best);
     }

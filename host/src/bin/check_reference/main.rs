@@ -25,6 +25,10 @@ fn main() {
     for edition in 1..=MAX_EDITION {
         println!("generator, edition {edition}: {} blocks", networks::check_generator(random, edition));
     }
+    for edition in 1..=MAX_EDITION {
+        let (blocks, tied) = networks::check_tied(random, edition);
+        println!("blocks made for ties, edition {edition}: {blocks}, the order decides in {tied}");
+    }
     println!("the generator's measured activities: {} nets", networks::check_activities(random));
     println!("blocks with probabilities against the same in edition 3: {}", networks::check_twins(random));
     let (counted, lists, late) = sizing::check_exact(random);

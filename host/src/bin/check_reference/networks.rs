@@ -3,7 +3,8 @@
 use reference::block::{decode, encode, Block, Refusal, Wire, MAX_GATES};
 use reference::edition::{has_wire_delays, is_measured};
 use reference::generate::editions::{in_any_edition, in_edition_3, Counted};
-use reference::generate::{self, any_block, has_ties, Values, Wires};
+use reference::generate::ties::{has_ties, tied_block};
+use reference::generate::{self, any_block, Values, Wires};
 use reference::random::Random;
 use reference::{merging, network, parts, search, timing};
 use std::collections::HashSet;
@@ -163,6 +164,20 @@ pub fn check_generator(random: &mut Random, edition: u8) -> usize {
     let counts = [loops, ends, not_series_parallel, ties, late, barely_late, full];
     assert!(counts.iter().all(|&count| count >= 40), "{counts:?}");
     blocks
+}
+
+/// In more than four of five blocks that are made for it the order of ties decides (document 02, K8). Returns how many blocks
+/// there were, and in how many it does.
+pub fn check_tied(random: &mut Random, edition: u8) -> (usize, usize) {
+    let (blocks, mut tied) = (500, 0);
+    for round in 0..blocks {
+        let block = tied_block(random, edition, 3 + round % 62);
+        assert_eq!((block.edition, decode(&encode(&block))), (edition, Ok(block.clone())));
+        assert!(parts::reduces(&block) && timing::spare(&block) > 0, "{block:?}");
+        tied += usize::from(has_ties(&block));
+    }
+    assert!(5 * tied > 4 * blocks, "{tied}");
+    (blocks, tied)
 }
 
 /// What list merging answers, and the increases that it writes.

@@ -4,7 +4,9 @@ use crate::networks::small_block;
 use reference::answers;
 use reference::block::{decode, encode, Block, MAX_DROP, MAX_GATES};
 use reference::edition::max_activity;
+use reference::exact::Order;
 use reference::generate::editions::{in_any_edition, Counted};
+use reference::generate::ties::any_tied_block;
 use reference::generate::{self, any_block, Values, Wires, ALL_VALUES};
 use reference::random::Random;
 use reference::{damage, exact, merging, parts, search, timing};
@@ -22,7 +24,7 @@ pub fn check_exact(random: &mut Random) -> (Counted, usize, usize) {
         assert_eq!(exact::best(&block), tried, "{block:?}");
         let (start, savings) = search::best_savings(&block);
         for (k, saving) in savings.iter().enumerate() {
-            let within = exact::best_within(&block, start as i64 + k as i64).expect("a list");
+            let within = exact::best_within(&block, start as i64 + k as i64, Order::FarEnd).expect("a list");
             assert_eq!(within.saving, *saving, "spare {k}: {block:?}");
             lists += 1;
         }
@@ -30,18 +32,29 @@ pub fn check_exact(random: &mut Random) -> (Counted, usize, usize) {
             assert_eq!(Some(exact::curve(&block)), search::curve(&block), "{block:?}");
         }
     }
-    assert!(counted.delayed > 1_000 && counted.measured > 1_000 && late > 100, "{counted} {late}");
+    assert!(
+        counted.delayed > 1_000 && counted.measured > 1_000 && counted.tied > 200 && late > 100,
+        "{counted} {late}"
+    );
     (counted, lists, late)
 }
 
-/// Merging gives a list in time of the saving that it states, which is the best; and the same refusals. Returns how many
-/// blocks are sized, which these are, and how many are refused.
+/// A block of any kind in any edition; every fourth one is made for ties.
+fn merged_block(random: &mut Random, round: usize) -> Block {
+    let most_gates = if round % 10 == 0 { 64 } else { 16 };
+    if round % 4 == 0 {
+        return any_tied_block(random, most_gates);
+    }
+    let block = any_block(random, most_gates);
+    in_any_edition(random, block)
+}
+
+/// Merging gives the best list, ties included, with its saving, and the same refusals. Returns how many blocks are sized, which
+/// these are, and how many are refused.
 pub fn check_merging(random: &mut Random) -> (usize, Counted, usize) {
     let (mut accepted, mut counted, mut refused) = (0, Counted::default(), 0);
     for round in 0..4_000 {
-        let most_gates = if round % 10 == 0 { 64 } else { 16 };
-        let block = any_block(random, most_gates);
-        let block = in_any_edition(random, block);
+        let block = merged_block(random, round);
         let mut file = encode(&block);
         if random.chance(1, 4) {
             file = damage::damaged(random, &file);
@@ -55,6 +68,7 @@ pub fn check_merging(random: &mut Random) -> (usize, Counted, usize) {
             }
             Ok(best) => {
                 assert_eq!(merged, Ok((best.increases.len(), best.saving)), "{block:?}");
+                assert_eq!(increases[..best.increases.len()], best.increases, "{block:?}");
                 assert_eq!(answers::judge(&file, &increases), Ok(best.saving), "{block:?}");
                 accepted += 1;
                 counted.count(&decode(&file).expect("a block"));
@@ -62,7 +76,7 @@ pub fn check_merging(random: &mut Random) -> (usize, Counted, usize) {
         }
     }
     assert!(accepted > 1_000 && refused > 1_000, "{accepted} {refused}");
-    assert!(counted.delayed > 300 && counted.measured > 300, "{counted}");
+    assert!(counted.delayed > 300 && counted.measured > 300 && counted.tied > 300, "{counted}");
     (accepted, counted, refused)
 }
 
@@ -77,19 +91,25 @@ fn best_saving_with(block: &mut Block, gate: usize, increase: u32) -> Option<u64
     found.ok().map(|(_, saving)| saving + own)
 }
 
-/// The order of ties on larger blocks: gate after gate, the increase allows the best saving and one tick less does not.
-/// (The increases of one gate that allow it lie side by side.) Returns how many blocks and gates there were, and which
-/// blocks.
+/// A series-parallel block of 8 gates or more in any edition.
+fn larger_block(random: &mut Random) -> Block {
+    let values = random.pick(&[Values::Equal, Values::Equal, Values::Exhausted, Values::Plain]);
+    let gates = 8 + random.below(57);
+    let block = generate::block(random, Wires::SeriesParallel, values, gates, 3);
+    in_any_edition(random, block)
+}
+
+/// The order of ties on larger blocks: gate after gate, from n - 1 down (document 02, K8), the increase allows the best saving
+/// and one tick less does not. (The increases of one gate that allow it lie side by side.) Returns how many blocks and gates
+/// there were, and which blocks.
 pub fn check_ties(random: &mut Random) -> (usize, usize, Counted) {
     let (mut blocks, mut gates, mut counted) = (0, 0, Counted::default());
     while blocks < 300 {
-        let values = random.pick(&[Values::Equal, Values::Equal, Values::Exhausted, Values::Plain]);
-        let count = 8 + random.below(57);
-        let block = generate::block(random, Wires::SeriesParallel, values, count, 3);
-        let mut block = in_any_edition(random, block);
+        let mut block = if blocks % 2 == 0 { larger_block(random) } else { any_tied_block(random, 64) };
         let Some(best) = exact::best(&block) else { continue };
+        counted.count(&block);
         let mut earned = 0;
-        for (gate, &increase) in best.increases.iter().enumerate() {
+        for (gate, &increase) in best.increases.iter().enumerate().rev() {
             let whole = |found: Option<u64>| found.map(|saving| saving + earned);
             assert_eq!(whole(best_saving_with(&mut block, gate, increase)), Some(best.saving));
             if increase > 0 {
@@ -101,9 +121,8 @@ pub fn check_ties(random: &mut Random) -> (usize, usize, Counted) {
             gates += 1;
         }
         blocks += 1;
-        counted.count(&block);
     }
-    assert!(counted.delayed > 60 && counted.measured > 60, "{counted}");
+    assert!(counted.delayed > 60 && counted.measured > 60 && counted.tied > 100, "{counted}");
     (blocks, gates, counted)
 }
 
@@ -122,7 +141,7 @@ pub fn check_curve(random: &mut Random) -> usize {
         let all: u64 = curve.pairs.iter().map(|p| p.0).sum();
         for _ in 0..4 {
             let spare = random.below(all as usize + 2) as u64;
-            let best = exact::best_within(&block, (curve.start + spare) as i64).expect("a list");
+            let best = exact::best_within(&block, (curve.start + spare) as i64, Order::FarEnd).expect("a list");
             assert_eq!(best.saving, curve.counted_off(spare), "spare {spare}: {block:?}");
         }
     }

@@ -1,8 +1,9 @@
 -- `heads::gate::gate_head` meets its contract: j steps are passed, and the ticks left lie in the others. Assumes nothing.
-use mathlib.Core.Path.{_∙_}
+use mathlib.Core.Path.{_∙_, ap}
 use borrow.Author.Needs.{needs}
-use Prim.Native.Nat.{_-_}
+use Prim.Native.Nat.{ℕ, _-_}
 use native.Mathlib.Omega.{arith}
+use Rattle.optimum.specs.Head.{rank}
 use Rattle.blockwords.specs.BlockWords.{gates-held, counts-of, widths-of, drops-of, inputs-of}
 use Rattle.heads.proofs.Stepping.{Passed, passed-none, passed-more, found-step, found-none}
 use Rattle.heads.proofs.gate.gate_head.Statement.{statement}
@@ -39,10 +40,10 @@ rank-requires : tie.Need-rank-requires Inv-loop μ-loop
 rank-requires c κs = search needs
 
 tick-head-requires : tie.Need-tick-head-requires Inv-loop μ-loop
-tick-head-requires c κs = (rw (c .before .before .before .step-drop .ensures) (c .before .before .before .before .before .before .before .before .before .pre .1 .drop-small (c .before .before .before .before .before .before .before .before .before .args .g) (c .before .before .before .before .before .before .before .loop .j) (c .before .before .before .before .before .before .before .before .before .pre .0) (rw (c .before .before .before .before .before .before .before .before .step-count .ensures) at (c .before .before .before .before .before .before .loop-test .taken))), rw (c .before .before .input-of .ensures) (c .before .before .before .before .before .before .before .before .before .pre .1 .input-small (c .before .before .before .before .before .before .before .before .before .args .g) (c .before .before .before .before .before .before .before .before .before .pre .0)), omega (arith, c .rank .ensures, c .before .gate-count .ensures, c .before .before .before .before .before .before .before .before .before .pre .1 .gates))
+tick-head-requires c κs = (rw (c .before .before .before .step-drop .ensures) (c .before .before .before .before .before .before .before .before .before .pre .1 .drop-small (c .before .before .before .before .before .before .before .before .before .args .g) (c .before .before .before .before .before .before .before .loop .j) (c .before .before .before .before .before .before .before .before .before .pre .0) (rw (c .before .before .before .before .before .before .before .before .step-count .ensures) at (c .before .before .before .before .before .before .loop-test .taken))), rw (c .before .before .input-of .ensures) (c .before .before .before .before .before .before .before .before .before .pre .1 .input-small (c .before .before .before .before .before .before .before .before .before .args .g) (c .before .before .before .before .before .before .before .before .before .pre .0)), omega (arith, c .rank .ensures, c .before .gate-count .ensures, c .before .before .before .before .before .before .before .before .before .pre .0, c .before .before .before .before .before .before .before .before .before .pre .1 .gates))
 
 returns : tie.Need-returns Inv-loop μ-loop
-returns c = found-step (c .before .before .before .before .before .before .before .before .loop .inv) (rw (c .before .before .before .before .before .before .before .before .before .step-count .ensures) at (c .before .before .before .before .before .before .before .loop-test .taken)) (c .before .before .before .before .before .before .step-width .ensures) (c .before .before .before .before .before .if1 .taken) (c .before .before .before .before .step-drop .ensures) (c .before .before .before .input-of .ensures) (rw (c .before .before .gate-count .ensures) at (c .before .rank .ensures)) (c .tick-head .ensures)
+returns c = found-step (c .before .before .before .before .before .before .before .before .loop .inv) (rw (c .before .before .before .before .before .before .before .before .before .step-count .ensures) at (c .before .before .before .before .before .before .before .loop-test .taken)) (c .before .before .before .before .before .before .step-width .ensures) (c .before .before .before .before .before .if1 .taken) (c .before .before .before .before .step-drop .ensures) (c .before .before .before .input-of .ensures) (c .before .rank .ensures ∙ ap (λ (n : ℕ). rank n (c .before .before .before .before .before .before .before .before .before .before .args .g)) (c .before .before .gate-count .ensures)) (c .tick-head .ensures)
 
 add-j : tie.Need-add-j Inv-loop μ-loop
 add-j c = omega (arith, c .before .before .before .before .step-count .ensures, c .before .before .loop-test .taken, c .before .before .before .before .before .pre .1 .few (c .before .before .before .before .before .args .g) (c .before .before .before .before .before .pre .0))
