@@ -175,13 +175,12 @@ class Block:
             ticks -= width
         return None
 
-    def moves(self, increases, whither):
-        """The lists that save as much with one tick moved from a gate to one of those that whither(gate) names, where they are
-        in time."""
+    def moves(self, increases, targets):
+        """The lists in time that save as much with one tick moved from a gate g to one of the gates targets(g)."""
         free = [self.gain(g, increases[g]) for g in range(self.n)]
         for g in range(self.n):
             taken = self.gain(g, increases[g] - 1) if increases[g] else None
-            for other in whither(g):
+            for other in targets(g):
                 if taken is not None and free[other] == taken:
                     moved = list(increases)
                     moved[g] -= 1
@@ -462,7 +461,7 @@ class Case:
         if not self.lines["curve"].startswith("refused"):
             counted = counted_off(self.numbers("curve", 3), self.block.spare())
             self.hold(counted == saving, "best", "the curve says %d" % counted)
-        # with the tick at one of the gates below it would come first
+        # with a tick of gate g at one of the gates range(g), those below it, the list would come first
         self.hold(not any(self.block.moves(increases, range)), "best", "a tick belongs to a lower gate")
 
     def got_11(self):

@@ -21,7 +21,7 @@ pub struct Answer {
 pub type Call<'a> = &'a mut dyn FnMut(&[u8], &mut [u8]) -> Answer;
 
 /// The bytes of a list: four for each increase, high byte first.
-fn bytes_of(increases: &[u32]) -> Vec<u8> {
+pub fn bytes_of(increases: &[u32]) -> Vec<u8> {
     increases.iter().flat_map(|x| x.to_be_bytes()).collect()
 }
 

@@ -6,6 +6,7 @@
 mod ffi;
 
 use reference::block::{encode, MAX_GATES};
+use reference::compare::bytes_of;
 use reference::generate::editions::in_edition_3;
 use reference::generate::{benchmark_block, benchmark_with_delays};
 use reference::merging;
@@ -58,7 +59,19 @@ fn files(edition: u8, shape: Shape, gates: usize, steps: usize) -> Vec<Vec<u8>> 
     (0..BLOCKS).map(|_| file()).collect()
 }
 
+/// Both sides answer every file with the same list and saving.
+fn check_same(files: &[Vec<u8>]) {
+    for file in files {
+        let (mut bytes, mut increases) = ([0; 4 * MAX_GATES], [0; MAX_GATES]);
+        let (gates, saving) = merging::best_increases(file, &mut increases).expect("a block in time");
+        let answer = ffi::best_increases(file, &mut bytes);
+        assert_eq!((answer.number, answer.place, answer.saving), (0, gates as u32, saving));
+        assert_eq!(bytes[..4 * gates], bytes_of(&increases[..gates]));
+    }
+}
+
 fn measure(files: &[Vec<u8>]) -> Times {
+    check_same(files);
     let mut least = Times { plain: f64::INFINITY, library: f64::INFINITY };
     let mut bytes = [0; 4 * MAX_GATES];
     let mut increases = [0; MAX_GATES];
