@@ -2,7 +2,7 @@
 -- Assumes nothing.
 use mathlib.Core.Path.{_≡_, refl, subst, sym, ap}
 use mathlib.Core.Logic.{_⊎_, inl, inr, _↔_}
-use mathlib.Core.List.{List, [], _∷_, head-eq-of-cons-eq, tail-eq-of-cons-eq}
+use mathlib.Core.List.{List, [], _∷_}
 use Prim.Native.Nat.{ℕ, zero, suc, _<_}
 use native.Mathlib.Nat.{suc-inj, suc-ne-zero}
 use native.Mathlib.Omega.{arith}
@@ -48,12 +48,8 @@ before-if (a ∷ xs) (b ∷ ys) e (suc g) l s = behind (before-if xs ys (suc-inj
 pub before-exactly : (xs ys : List ℕ) → Before xs ys ↔ SmallerAtSome xs ys
 before-exactly xs ys = (before-then, λ (e, g, within, smaller, s). before-if xs ys e g smaller s)
 
-before-differs : {xs ys : List ℕ} → Before xs ys → xs ≡ ys → ⊥
-before-differs (behind h) e = before-differs h (tail-eq-of-cons-eq e)
-before-differs (here {a} {b} h) e = let q : a ≡ b = head-eq-of-cons-eq e in omega arith
-
 pub before-irrefl : {xs : List ℕ} → ¬ (Before xs xs)
-before-irrefl h = before-differs h refl
+before-irrefl h = let (_, _, _, smaller, _) = before-then h in omega (arith, smaller)
 
 pub before-trans : {xs ys zs : List ℕ} → Before xs ys → Before ys zs → Before xs zs
 before-trans (behind h) (behind k) = behind (before-trans h k)

@@ -46,7 +46,7 @@ fn rank_in(key: u64) -> u64
     RANKS - 1 - key % RANKS
 }
 
-// The rank of gate g among n gates. The direction of the order of ties stands in its definition alone.
+// The rank of gate g among n gates. How it is counted, from the far end and so without n, stands in its definition alone.
 pub fn rank(n: u32, g: u32) -> u32
     ensures { λ r. ⌜ r ≡ ranking n g ⌝ }
 {
