@@ -1,10 +1,13 @@
-"""A second reader of document 01, and of K1, K2, K3 and K8 in document 02, in another language: holds the stored cases to them.
+"""A second reader of document 01, and of K1, K2, K3, K8 and K14 in document 02, in another language: holds the stored cases to
+them.
 
 second_opinion.py DIR reads DIR/stdin and DIR/stdout as host/CASES.md describes them. Which lines there are, refusals, slacks
 and judging are checked for every case, the place of 11 by taking gates away and merging wires in several orders; the best list
 and the curve of small blocks by trying everything. Of a larger block's curve are checked start, count, widths, falling gains,
 its length and what all of it earns, which no search is needed for; of its best list that it is in time, saves what is stated
 and what the curve says, slows no gate that gains nothing, and comes before those as good with one tick moved to another gate.
+Where a block is the one before it in ticks m times as fine, its slacks, curve and best list are held to m times those before,
+its gains to the same.
 At the end mistakes are put into the lines of some larger blocks, given an answer or refused with 11, and into those of some
 blocks with wire delays or with measured activities the lines that mistaken delays or activities would give, and into those of
 some blocks with ties the lines of a best list that comes later (mistakes.py); each must be noticed.
@@ -18,6 +21,7 @@ from pathlib import Path
 from random import Random
 
 from editions import MOST_ACTIVITY, MOST_SWITCHING, WIRE_LENGTH, activity, is_measured
+from finer import in_finer_words, times_as_fine
 from mistakes import ACTIVITY_MISTAKES, wrong_activities, wrong_answers, wrong_delays, wrong_lines, wrong_order, wrong_places
 
 MOST_LISTS = 2_000
@@ -25,6 +29,8 @@ MOST_WIRES = 8
 ORDERS = 3
 BLOCKS_MISTAKEN = 10
 BLOCKS_APART = 5
+# so many blocks given an answer must stand there in finer ticks too
+LEAST_FINER = 100
 MOST_PAIRS = 512
 ALWAYS = ["case", "slacks", "curve", "best", "judge"]
 WITH_SLACKS = ["more", "beyond", "largest"]
@@ -437,6 +443,16 @@ class Case:
         self.check_judging() if given else self.expect("judge", short)
         return self.block.is_small()
 
+    def check_finer(self, before):
+        """Holds the lines to those of the case before, where the block is the same in finer ticks. Whether it is, and given an
+        answer."""
+        m = times_as_fine(before.block, self.block) if before.block and self.block else None
+        if m is None:
+            return False
+        for name in ("slacks", "curve", "best"):
+            self.expect(name, in_finer_words(name, before.lines[name], m))
+        return self.is_given()
+
     def check_curve(self):
         """What is settled of a curve without trying lists."""
         block = self.block
@@ -609,25 +625,31 @@ def put_into_order(last):
 
 def check_all(data, text):
     """Holds every record to the lines printed for it; then puts mistakes into some of the last cases of each kind."""
-    count = tried = 0
+    count = tried = finer = 0
     kinds = defaultdict(list)
+    before = None
     for stored in stored_cases(data, text):
         case = Case(*stored)
         small = case.check()
+        finer += before is not None and case.check_finer(before)
+        before = case
         count += 1
         tried += small
         for kind in case.kinds(small):
             kinds[kind].append(stored)
+
+    if finer < LEAST_FINER:
+        raise Wrong("there are too few blocks in finer ticks: %d" % finer)
 
     def last(kind):
         if len(kinds[kind]) < BLOCKS_MISTAKEN * BLOCKS_APART:
             raise Wrong("there are too few blocks to put mistakes into: %s" % kind)
         return kinds[kind][-BLOCKS_MISTAKEN * BLOCKS_APART :: BLOCKS_APART]
 
-    said = "%d cases, %d of them by trying every list; %d mistakes put in were noticed, and %d of wire delays, %d of activities, "
-    said += "%d of the order of ties"
+    said = "%d cases, %d of them by trying every list, %d given m times the answers of the case before; %d mistakes put in were "
+    said += "noticed, and %d of wire delays, %d of activities, %d of the order of ties"
     mistakes = put_into_lines(last), put_into_delays(last), put_into_activities(last), put_into_order(last)
-    return said % (count, tried, *mistakes)
+    return said % (count, tried, finer, *mistakes)
 
 
 def main():

@@ -8,6 +8,14 @@ use crate::{exact, network, parts, timing};
 /// Elements that the curve's two slices need.
 pub const MAX_PAIRS: usize = 512;
 
+/// What the three calls that write to lent slices answer for one file.
+#[derive(Clone, Debug, PartialEq, Eq)]
+pub struct Answers {
+    pub slacks: Result<Vec<i64>, Refusal>,
+    pub curve: Result<Curve, Refusal>,
+    pub best: Result<Best, Refusal>,
+}
+
 /// The block that the file holds, or one of the refusals 1 to 9.
 pub fn well_formed(file: &[u8]) -> Result<Block, Refusal> {
     let block = decode(file)?;
@@ -25,7 +33,7 @@ pub fn slacks(file: &[u8], lent: usize) -> Result<Vec<i64>, Refusal> {
 }
 
 /// Refusal 11, its place the lowest gate left other than 0 and n - 1 (document 02, K1).
-fn check_parts(block: &Block) -> Result<(), Refusal> {
+pub fn check_parts(block: &Block) -> Result<(), Refusal> {
     if parts::reduces(block) {
         return Ok(());
     }

@@ -2,8 +2,9 @@
 
 mod groups;
 
-use crate::answers::{self, MAX_PAIRS};
+use crate::answers::{self, Answers, MAX_PAIRS};
 use crate::block::{decode, encode, Block, Refusal, MAX_GATES};
+use crate::finer::scaled_answers;
 use crate::generate::ties::has_ties;
 use crate::{parts, search};
 pub use groups::all;
@@ -25,6 +26,8 @@ pub struct Case {
     pub beyond: u32,
     /// The number of the case that says the same in an earlier edition.
     pub twin_of: Option<usize>,
+    /// How many times as fine the ticks are as in the case before, which says the same otherwise (document 02, K14).
+    pub finer: Option<u32>,
 }
 
 /// Elements that the program has for slacks and increases, and for each half of the pairs.
@@ -42,7 +45,7 @@ impl Case {
             }
         };
         let (lent, lent_widths, lent_gains) = (MOST_LENT, MOST_LENT_PAIRS, MOST_LENT_PAIRS);
-        Case { file, lent, lent_widths, lent_gains, gate, beyond, twin_of: None }
+        Case { file, lent, lent_widths, lent_gains, gate, beyond, twin_of: None, finer: None }
     }
 
     /// The same in a later edition, where the file can be read and is of none as late.
@@ -70,21 +73,24 @@ impl Case {
         record
     }
 
-    /// The lines that the program prints for it, but for the number.
-    pub fn answered(&self) -> String {
-        let mut text = String::new();
-        let slacks = answers::slacks(&self.file, self.lent);
-        let curve = answers::curve(&self.file, self.lent_widths, self.lent_gains);
-        let best = answers::best_increases(&self.file, self.lent);
-        line(&mut text, "slacks", slacks.as_ref().map(|s| joined(s)), true);
-        line(&mut text, "curve", curve.as_ref().map(curve_words), true);
-        line(&mut text, "best", best.as_ref().map(|b| format!("{} {}", b.saving, joined(&b.increases))), true);
+    /// What the calls that write to lent slices answer.
+    fn answers(&self) -> Answers {
+        Answers {
+            slacks: answers::slacks(&self.file, self.lent),
+            curve: answers::curve(&self.file, self.lent_widths, self.lent_gains),
+            best: answers::best_increases(&self.file, self.lent),
+        }
+    }
+
+    /// The lines that the program prints for it with these answers, but for the number.
+    fn printed(&self, answers: &Answers) -> String {
+        let mut text = first_lines(answers);
         let mut list = vec![0; self.lent];
-        if let Ok(best) = &best {
+        if let Ok(best) = &answers.best {
             list[..best.increases.len()].copy_from_slice(&best.increases);
         }
         line(&mut text, "judge", answers::judge(&self.file, &list).as_ref().map(u64::to_string), false);
-        if let Ok(slacks) = slacks {
+        if let Ok(slacks) = &answers.slacks {
             self.judge_others(&mut text, slacks.len(), &list);
         }
         text
@@ -125,20 +131,35 @@ fn line(text: &mut String, name: &str, answer: Result<String, &Refusal>, lends: 
     writeln!(text, "{name} {words}{kept}").unwrap();
 }
 
+/// The lines of the calls that write to lent slices.
+fn first_lines(answers: &Answers) -> String {
+    let Answers { slacks, curve, best } = answers;
+    let mut text = String::new();
+    line(&mut text, "slacks", slacks.as_ref().map(|s| joined(s)), true);
+    line(&mut text, "curve", curve.as_ref().map(curve_words), true);
+    line(&mut text, "best", best.as_ref().map(|b| format!("{} {}", b.saving, joined(&b.increases))), true);
+    text
+}
+
 /// What the program reads, and what it must print. A case that says the same as one of an earlier edition is answered as that
-/// one.
+/// one, and a case in finer ticks with so many times the answers of the case before.
 pub fn written(cases: &[Case]) -> (Vec<u8>, String) {
     let mut input = Vec::new();
     let mut output = String::new();
-    let mut answers: Vec<String> = Vec::new();
+    let mut done: Vec<(Answers, String)> = Vec::new();
     for (number, case) in cases.iter().enumerate() {
-        let answered = case.answered();
+        let answers = case.answers();
+        let printed = case.printed(&answers);
         if let Some(first) = case.twin_of {
-            assert_eq!(answered, answers[first], "case {number} and case {first}");
+            assert_eq!(printed, done[first].1, "case {number} and case {first}");
+        }
+        if let Some(m) = case.finer {
+            let right = first_lines(&scaled_answers(&done[number - 1].0, m));
+            assert!(printed.starts_with(&right), "case {number}: {printed} does not begin with {right}");
         }
         input.extend(case.record());
-        write!(output, "case {number}\n{answered}").unwrap();
-        answers.push(answered);
+        write!(output, "case {number}\n{printed}").unwrap();
+        done.push((answers, printed));
     }
     (input, output)
 }
@@ -166,4 +187,37 @@ pub fn search_agrees(cases: &[Case]) -> usize {
         count += 1;
     }
     count
+}
+
+#[cfg(test)]
+mod tests {
+    use super::*;
+    use crate::worked::{diamond, finer::diamond_in_tenths};
+
+    /// The cases of D and of D in tenths of a tick, the second said to be so many times as fine.
+    fn written_as(m: u32, deadline: u32, in_tenths: u32) -> (Vec<u8>, String) {
+        let finer = Case { finer: Some(m), ..Case::of(diamond_in_tenths(in_tenths), 1) };
+        written(&[Case::of(encode(&diamond(deadline)), 1), finer])
+    }
+
+    #[test]
+    fn a_case_in_finer_ticks_by_hand() {
+        let (_, output) = written_as(10, 10, 100);
+        let right = "case 1\nslacks 30 30 50 30 kept\ncurve 70 2621440 3 50 393216 20 294912 30 65536 kept\n\
+            best 14417920 0 0 20 30 kept\njudge 14417920\nmore 13:0 14:0 14:0 14:0\nbeyond 13:1\nlargest 13:1\n";
+        assert!(output.ends_with(right), "{output}");
+        assert!(written_as(10, 6, 60).1.contains("best refused 12 0 kept\njudge refused 14 0\n"));
+    }
+
+    #[test]
+    #[should_panic(expected = "does not begin with")]
+    fn another_m_is_noticed() {
+        written_as(5, 10, 100);
+    }
+
+    #[test]
+    #[should_panic(expected = "does not begin with")]
+    fn another_deadline_is_noticed() {
+        written_as(10, 10, 101);
+    }
 }

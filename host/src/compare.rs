@@ -1,10 +1,12 @@
 //! The layout editor's call held to the reference, on random files and slices; what calls it is handed in.
 
 use crate::answers::layout_call;
-use crate::block::{decode, encode};
+use crate::block::{decode, encode, MAX_GATES};
+use crate::finer::{scaled, scaled_best};
 use crate::generate::compared_block;
 use crate::generate::editions::Counted;
 use crate::random::Random;
+use crate::search::Best;
 use crate::{boundaries, damage, text, worked};
 use std::collections::HashSet;
 
@@ -71,13 +73,39 @@ fn any_file(random: &mut Random) -> Vec<u8> {
     }
 }
 
-/// How many files were compared, and how often each number came back; of the random files the places of 11, and how many
-/// of those that were sized have wire delays, measured activities and ties.
+/// What the call says of a file, its refusal or the list that it writes with the saving.
+fn said(call: Call, file: &[u8]) -> Result<Best, Answer> {
+    let mut lent = [0; 4 * MAX_GATES];
+    let answer = call(file, &mut lent);
+    if answer.number != 0 {
+        return Err(answer);
+    }
+    let increase = |bytes: &[u8]| bytes.iter().fold(0, |number, &byte| 256 * number + u32::from(byte));
+    let increases = lent.chunks(4).take(answer.place as usize).map(increase).collect();
+    Ok(Best { increases, saving: answer.saving })
+}
+
+/// The file of the same block in ticks m times as fine (document 02, K14), where there is one.
+fn finer_file(file: &[u8], m: u32) -> Option<Vec<u8>> {
+    scaled(&decode(file).ok()?, m).map(|finer| encode(&finer))
+}
+
+/// What the call says of a file in ticks m times as fine in place of m times what it says of the file, in words; a refusal is to
+/// stay as it is.
+fn finer_difference(call: Call, file: &[u8], finer: &[u8], m: u32) -> Option<String> {
+    let right = said(call, file).map(|best| scaled_best(&best, m));
+    let found = said(call, finer);
+    (found != right).then(|| format!("{m} times as fine: {found:?} in place of {right:?}"))
+}
+
+/// How many files were compared, and how often each number came back; of the random files the places of 11, how many of those
+/// that were sized have wire delays, measured activities and ties, and how many were sized in finer ticks too.
 pub struct Compared {
     pub files: usize,
     pub numbers: [usize; 13],
     pub places: Vec<u32>,
     pub sized: Counted,
+    pub finer: usize,
 }
 
 /// That random files which press on document 02's requests were among those compared, or what was missing.
@@ -108,7 +136,7 @@ pub fn compare(call: Call, files: usize, seed: u64) -> Result<Compared, String> 
     let random = &mut Random::from_seed(seed);
     let fixed = worked::all().into_iter().map(|w| w.file).chain(boundaries::all().into_iter().map(|b| b.file));
     let mut waiting: Vec<Vec<u8>> = fixed.collect();
-    let mut compared = Compared { files: 0, numbers: [0; 13], places: Vec::new(), sized: Counted::default() };
+    let mut compared = Compared { files: 0, numbers: [0; 13], places: Vec::new(), sized: Counted::default(), finer: 0 };
     while compared.files < files {
         let is_random = waiting.is_empty();
         let file = waiting.pop().unwrap_or_else(|| any_file(random));
@@ -117,17 +145,26 @@ pub fn compare(call: Call, files: usize, seed: u64) -> Result<Compared, String> 
                 return Err(format!("{lent} bytes lent, {difference}, for {}", text::shown(&file)));
             }
         }
+        let m = random.pick(&[2, 3, 5, 10]);
+        let finer = finer_file(&file, m);
+        if let Some(difference) = finer.as_ref().and_then(|finer| finer_difference(call, &file, finer, m)) {
+            return Err(format!("{difference}, for {}", text::shown(&file)));
+        }
         let answer = expected(&file, 256).0;
         if is_random && answer.number == 11 {
             compared.places.push(answer.place);
         }
         if is_random && answer.number == 0 {
             compared.sized.count(&decode(&file).expect("a block"));
+            compared.finer += usize::from(finer.is_some());
         }
         compared.numbers[answer.number as usize] += 1;
         compared.files += 1;
     }
     complete(&compared.places, &compared.sized)?;
+    if compared.finer == 0 {
+        return Err("no random block was sized in finer ticks".to_string());
+    }
     Ok(compared)
 }
 

@@ -1,6 +1,7 @@
 //! Random blocks: networks of every kind, and values that press on one rule each.
 
 pub mod editions;
+pub mod finer;
 pub mod limits;
 pub mod ties;
 
@@ -234,10 +235,15 @@ fn gate(random: &mut Random, values: Values, most_steps: usize) -> Gate {
 
 /// Sets arrival and deadline: spare 0, -1, within the widths, at their end or beyond; or a deadline that heeds no path.
 pub fn set_times(random: &mut Random, block: &mut Block) {
-    block.arrival = random.pick(&[0, 0, 1, 300, 1_000]);
-    let most_time = i64::from(MAX_TIME);
+    set_times_up_to(random, block, MAX_TIME);
+}
+
+/// The same with neither of the two above `most`.
+fn set_times_up_to(random: &mut Random, block: &mut Block, most: u32) {
+    block.arrival = random.pick(&[0, 0, 1, 300, 1_000]).min(most / 4);
+    let most_time = i64::from(most);
     if random.chance(1, 20) || network::check(block).is_err() {
-        block.deadline = random.pick(&[0, block.arrival, block.arrival.saturating_sub(1), 20, MAX_TIME]);
+        block.deadline = random.pick(&[0, block.arrival, block.arrival.saturating_sub(1), most.min(20), most]);
         return;
     }
     let start = timing::start(block) as i64;

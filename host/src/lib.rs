@@ -1,5 +1,5 @@
-//! A second implementation of document 01 and of document 02's K1, K2, K3 and K8, written from their text: it says what the
-//! library under test should answer.
+//! A second implementation of document 01 and of document 02's K1, K2, K3, K8 and K14, written from their text: it says what
+//! the library under test should answer.
 
 pub mod answers;
 pub mod apart;
@@ -10,6 +10,7 @@ pub mod compare;
 pub mod damage;
 pub mod edition;
 pub mod exact;
+pub mod finer;
 pub mod generate;
 pub mod merging;
 pub mod network;

@@ -1,9 +1,10 @@
 //! The blocks that document 01 tries by hand, with the answers that it gives for them; for the bridge and the chain of two,
 //! which document 02's K1 and K8 change, the answers given there. Numbers that are left open (some savings, some delays) are
-//! worked out by hand, and so are the answers of some blocks with wire delays, with measured activities and with ties
-//! (document 02, K2, K3 and K8); no answer comes from a program.
+//! worked out by hand, and so are the answers of some blocks with wire delays, with measured activities, with ties and in finer
+//! ticks (document 02, K2, K3, K8 and K14); no answer comes from a program.
 
 pub mod edition_3;
+pub mod finer;
 pub mod ties;
 
 use crate::block::{encode, Block};
@@ -215,6 +216,7 @@ pub fn all() -> Vec<Worked> {
     all.extend(edition_2());
     all.extend(edition_3::all());
     all.extend(ties::all());
+    all.extend(finer::all());
     all
 }
 

@@ -73,7 +73,7 @@ JudgeLines lent X =
     (Line lent 14 (At 0 (PathNotInTime X (take (gate-count X) lent))) (Gives (saving X (take (gate-count X) lent) ∷ []) lent))
 
 module _ {file : List ℕ} {B : Block} (well : WellFormed file B) where
-  limits : BlockLimits B
+  pub limits : BlockLimits B
   limits = read-limits file (well .reads)
 
   -- what the reduction takes for granted

@@ -22,6 +22,7 @@ use Rattle.model.specs.Ties.{Before}
 use Rattle.model.specs.Best.{Best}
 use Rattle.model.specs.Part.{Shape, Whole, SeriesParallel, lone, built}
 use Rattle.model.specs.Slack.{source-delay, required-time, slack, start}
+use Rattle.model.specs.Scale.{FinerTicks}
 use Rattle.model.specs.Remainder.{Moment, ReducedTo, Remains}
 use Rattle.model.specs.Refusal.{SoundNetwork, WellFormed, IllFormed}
 use Rattle.model.specs.Layout.{increase-bytes, list-bytes, GivesLayout, AnswersLayout}
@@ -32,11 +33,13 @@ use Rattle.model.proofs.Editions.{Agree, same-block-read}
 use Rattle.model.proofs.Ties.{before-exactly}
 use Rattle.model.proofs.Slack as paths
 use Rattle.model.proofs.Answer.{ill-unique, eleven-unique}
+use Rattle.optimum.proofs.Scaling.{finer-ticks}
 use Rattle.parts.proofs.Remainder.{same-gates-left}
 use Rattle.parts.proofs.Remains.{some-end, left-exactly}
+use Rattle.shaping.proofs.Facts.{descending}
 use Rattle.demands.proofs.TableLaws.{ill-formed-number, same-outcomes, passed, decided, roomy, answered-at, eleven-line, after-eleven}
 use Rattle.demands.proofs.TableLaws.{twelve-exactly as twelve-line}
-use Rattle.demands.proofs.CallLaws.{both, best-in-front, best-bytes, as-network, some-gate, along, late-or-not, in-time, slacks-lines, curve-lines, best-lines, judge-lines, layout-lines, best-accepts, layout-accepts, curve-accepts}
+use Rattle.demands.proofs.CallLaws.{both, best-in-front, best-bytes, limits, as-network, some-gate, along, late-or-not, in-time, slacks-lines, curve-lines, best-lines, judge-lines, layout-lines, best-accepts, layout-accepts, curve-accepts}
 use Rattle.demands.proofs.Judging.{accepted-in-time, accepted-saves}
 
 -- the block is one gate without a wire
@@ -195,6 +198,10 @@ module _ {file : List ℕ} {B : Block} (well : WellFormed file B) where
   -- .. and a gate other than 0 and n − 1 is left exactly when "not series-parallel" is true.
   pub left-when-not-built : ((g : ℕ) × Remains B g) ↔ NotBuilt B
   left-when-not-built = both (left-exactly (as-network well)) not-series-parallel
+
+  -- DOCUMENT 02, K14. "Finer ticks gain nothing": of the block of every file, for any whole m of 1 or more, so that the scaled block need fit no file.
+  pub finer-ticks-gain-nothing : SeriesParallel B → (m : ℕ) → 1 ≤ m → FinerTicks m B
+  finer-ticks-gain-nothing sp m some = finer-ticks B m some sp (as-network well .below) (descending B (limits well))
 
 -- DOCUMENT 02, K2. "The optimum is claimed for both editions": what is said above holds of every well-formed file; and every netlist within the limits, of any edition, with whatever wire delays and activities the edition has, is said by such a file if its network is sound.
 pub has-a-file : {N : Netlist} → Limited N → SoundNetwork (block-of N) → WellFormed (encode N) (block-of N)

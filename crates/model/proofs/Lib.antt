@@ -7,6 +7,7 @@ pub mod Signed
 pub mod Source
 pub mod Turned
 pub mod Slack
+pub mod Scale
 pub mod SameDelays
 pub mod Answer
 pub mod Remainder

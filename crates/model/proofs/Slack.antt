@@ -1,6 +1,6 @@
 -- Source delay, required time, slack and start are what the paths say: attained by a path, exceeded by none. And a block is late exactly when no list is in time.
 -- Assumes of the block: no gate is at fault with its wires, and the gates can be numbered along the wires (crate network finds such a numbering for every block without loops).
-use mathlib.Core.Path.{_≡_, sym, ap}
+use mathlib.Core.Path.{_≡_, sym, ap, subst, fun-ext}
 use mathlib.Core.Logic.{_↔_, _⊎_, inl, inr, ⊎-elim}
 use mathlib.Core.List.{List, [], _∷_, List·Memᴰ·head, List·Memᴰ·tail, List·Memᴰ·cases-cons, List·Memᴰ·not-nil}
 use Prim.Native.Nat.{ℕ, _+_, _-_, _≤_, _<_}
@@ -14,7 +14,7 @@ use lib.Signed.{ltZ, _<ℤ_}
 use Rattle.lists.proofs.Compare.{le-or-lt}
 use Rattle.model.specs.Block.{Wire, Block, gate-count, first, last, Stands, Joined}
 use Rattle.model.specs.Path.{Path, stay, go, Longest}
-use Rattle.model.specs.InTime.{no-increase, drawn, slowed, InTime, IsStart}
+use Rattle.model.specs.InTime.{no-increase, drawn, slowed, Sizing, InTime, IsStart}
 use Rattle.model.specs.Slack.{latest-in, source-by, source-delay, required-time, slack, start, spare}
 use Rattle.model.specs.Refusal.{none-in, none-out, SoundNetwork}
 use Rattle.model.proofs.Signed.{minus-minus, difference-pos, difference-neg}
@@ -49,6 +49,22 @@ pub zeros : (n g : ℕ) → getD (no-increase n) g 0 ≡ 0
 zeros n g =
     ⊎-elim (λ (h : n ≤ g). List·getD-eq-default (no-increase n) 0 (rw length-replicate h)) (getD-replicate n g 0 0)
     (le-or-lt n g)
+
+-- under no increase the paths last as drawn
+pub none-sized : (B : Block) {ok : ℕ → Type 0} → ((t : ℕ) → Path (B .wires) (drawn B) (first B) (last B) t → ok t) → Sizing B ok (no-increase (gate-count B))
+none-sized B all-ok =
+    let same = fun-ext {f = slowed B (no-increase (gate-count B))} {g = drawn B} (λ g. omega (arith, zeros (gate-count B) g)) in
+    record {
+      one-each = length-replicate (gate-count B) 0;
+      within-widths = λ g l. omega (arith, zeros (gate-count B) g);
+      paths = λ t p. all-ok t (subst (λ (d : ℕ → ℕ). Path (B .wires) d (first B) (last B) t) same p);
+    }
+
+-- under any list some path lasts as long as the start
+pub lasts-start : (B : Block) {ok : ℕ → Type 0} {s : ℕ} {x : List ℕ} → IsStart B s → Sizing B ok x → (t : ℕ) × ok t × (s ≤ t)
+lasts-start B {x = x} start sizing =
+    let (t, path, longer) = path-slower {e = slowed B x} (λ g. le-add-right (drawn B g) (getD x g 0)) (start .attained) in
+    (t, sizing .paths t path, longer)
 
 module _ (B : Block) (sound : SoundNetwork B) where
   pub entered : Entered (B .wires) (gate-count B) (first B)
@@ -147,20 +163,10 @@ module _ (B : Block) (sound : SoundNetwork B) where
 
     -- a list in time leaves the block in time as drawn, since no path gets shorter
     in-time-as-drawn : (x : List ℕ) → InTime B x → B .arrival + start B ≤ B .deadline
-    in-time-as-drawn x ok =
-        let slower = path-slower (λ (g : ℕ). le-add-right (drawn B g) (getD x g 0)) (start-is .attained) in
-        omega (arith, ok .paths (slower .0) (slower .1), slower .2)
+    in-time-as-drawn x ok = let (t, in-time, longer) = lasts-start B start-is ok in omega arith
 
     none-in-time : B .arrival + start B ≤ B .deadline → InTime B (no-increase (gate-count B))
-    none-in-time h =
-        record {
-          one-each = length-replicate (gate-count B) 0;
-          within-widths = λ (g : ℕ) (l : g < gate-count B). omega (arith, zeros (gate-count B) g);
-          paths =
-              λ (t : ℕ) (p : Path (B .wires) (slowed B (no-increase (gate-count B))) (first B) (last B) t).
-              let same = path-slower {e = drawn B} (λ (g : ℕ). omega (arith, zeros (gate-count B) g)) p in
-              omega (arith, start-is .greatest (same .0) (same .1), same .2);
-        }
+    none-in-time h = none-sized B (λ t p. omega (arith, start-is .greatest t p))
 
     -- "late" comes exactly when no list is in time
     pub late-exactly : (spare B <ℤ pos 0) ↔ ((x : List ℕ) → ¬ (InTime B x))

@@ -8,6 +8,7 @@ pub mod Ties
 pub mod Best
 pub mod Curve
 pub mod Part
+pub mod Scale
 pub mod Remainder
 pub mod Slack
 pub mod Field

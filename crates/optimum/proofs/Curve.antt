@@ -62,7 +62,7 @@ module _ (B : Block) (t : Tree) (tree : IsTree B t) (descending : (g : ℕ) → 
   abbrev start : List ℕ
   start = increases B t 0
 
-  gains-read : gains-of B t ≡ runs (gate-head B) t (step-count B) (read t start)
+  pub gains-read : gains-of B t ≡ runs (gate-head B) t (step-count B) (read t start)
   gains-read = runs-read (gate-head B) t (step-count B) start (tree .once) (placed 0)
 
   -- the increases after k ticks are k ticks from the raised start on

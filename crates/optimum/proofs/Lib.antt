@@ -23,3 +23,5 @@ pub mod Within
 pub mod Curve
 pub mod Range
 pub mod Optimum
+pub mod Stretch
+pub mod Scaling

@@ -3,3 +3,4 @@ pub mod Lines
 pub mod Sound
 pub mod Computes
 pub mod Worked
+pub mod Finer

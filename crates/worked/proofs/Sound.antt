@@ -53,6 +53,12 @@ by-lines {S} file lent further f each = go (read-block file) refl
         well-formed B (record { end = o; reads = e; network = sound-network (ascending-network B h) }) (each B o e h)
     go (refused k p) e h = ill-formed k p (unread e) refl
 
+-- the curve by the block's tree
+pub curve-by-tree : (B : Block) → ascending B ≡ true → ((g : ℕ) → Descending (gate B g .steps)) → (t : Tree) → Found B (some t)
+    → IsCurve B (start-of B t) (saving B (increases B t 0)) (pairs-of B t)
+curve-by-tree B h falls t (s, e) =
+    subst (λ u. IsCurve B (start-of B u) (saving B (increases B u 0)) (pairs-of B u)) e (Optimum.curve B s (ascending-network B h .below) falls)
+
 module _ (file : List ℕ) (B : Block) (end : ℕ) (reads : read-block file ≡ found B end) (h : ascending B ≡ true) where
   network : Network B
   network = ascending-network B h
@@ -105,9 +111,7 @@ module _ (file : List ℕ) (B : Block) (end : ℕ) (reads : read-block file ≡ 
   curve-line lent none f = fits (gate-left B) (f, gate-left-lowest network f) refl
   curve-line lent (some t) (s, e) =
       passes (λ p n. n .0 s)
-      (curve (start-of B t) (saving B (increases B t 0)) (pairs-of B t) s
-      (subst (λ u. IsCurve B (start-of B u) (saving B (increases B u 0)) (pairs-of B u)) e (Optimum.curve B s (network .below) falls))
-      refl)
+      (curve (start-of B t) (saving B (increases B t 0)) (pairs-of B t) s (curve-by-tree B h falls t (s, e)) refl)
 
 pub sound : (c : Call) → rises (read-block (file-of c)) ≡ true → Allows c (computed c)
 sound (find-slacks file lent) =

@@ -1,3 +1,4 @@
 pub mod Call
 pub mod Computed
 pub mod Table
+pub mod Finer

@@ -6,7 +6,7 @@ use Prim.Native.Nat.{ℕ, _*_}
 use lib.IntN.{pos}
 use lib.ListN.{replicate}
 use Rattle.model.specs.Block.{Step, Wire}
-use Rattle.model.specs.Netlist.{DrawnGate}
+use Rattle.model.specs.Netlist.{DrawnGate, Netlist}
 use Rattle.model.specs.File.{encode}
 use Rattle.model.specs.Answer.{Slices}
 use Rattle.worked.specs.Call.{find-slacks, judge-list, find-curve, find-best, Row}
@@ -33,10 +33,14 @@ to a b = record { source = a; target = b; delay = 0 }
 abbrev to-in : ℕ → ℕ → ℕ → Wire
 to-in a b ticks = record { source = a; target = b; delay = ticks }
 
--- the file of a block with these gates and wires, in an edition with the number v for the input, and in edition 1 with p = 128
+-- a block with these gates and wires, in an edition with the number v for the input
+abbrev netlist-in : ℕ → ℕ → ℕ → List DrawnGate → List Wire → Netlist
+netlist-in edition v deadline gs ws =
+    record { edition = edition; arrival = 0; deadline = deadline; switching = v; gates = gs; wires = ws }
+
+-- its file, and its file in edition 1 with p = 128
 abbrev file-in : ℕ → ℕ → ℕ → List DrawnGate → List Wire → List ℕ
-file-in edition v deadline gs ws =
-    encode (record { edition = edition; arrival = 0; deadline = deadline; switching = v; gates = gs; wires = ws })
+file-in edition v deadline gs ws = encode (netlist-in edition v deadline gs ws)
 
 abbrev file : ℕ → List DrawnGate → List Wire → List ℕ
 file = file-in 1 128
@@ -50,16 +54,23 @@ abbrev diamond-gates : ℕ → ℕ → ℕ → ℕ → List DrawnGate
 diamond-gates v w x y =
     gate-with v 2 [] ∷ gate-with w 3 (step 2 5 ∷ step 3 2 ∷ []) ∷ gate-with x 1 (step 4 4 ∷ []) ∷ gate-with y 2 (step 5 6 ∷ []) ∷ []
 
--- D in an edition with the number v for the input and for each net, and in edition 1 with p = 128
+-- D in an edition with the number v for the input and for each net, and its file; in edition 1 with p = 128
+abbrev pub diamond-netlist : ℕ → ℕ → ℕ → Netlist
+diamond-netlist edition v deadline = netlist-in edition v deadline (diamond-gates v v v v) diamond-wires
+
 abbrev diamond-in : ℕ → ℕ → ℕ → List ℕ
-diamond-in edition v deadline = file-in edition v deadline (diamond-gates v v v v) diamond-wires
+diamond-in edition v deadline = encode (diamond-netlist edition v deadline)
 
 abbrev diamond : ℕ → List ℕ
 diamond = diamond-in 1 128
 
--- D in edition 2 with deadline 12, its wires in the same order with these delays
+-- D in edition 2 with deadline 12, its wires in the same order with these delays, and its file
+abbrev pub delayed-netlist : ℕ → ℕ → ℕ → ℕ → Netlist
+delayed-netlist a b c d =
+    netlist-in 2 128 12 (diamond-gates 128 128 128 128) (to-in 0 1 a ∷ to-in 0 2 b ∷ to-in 1 3 c ∷ to-in 2 3 d ∷ [])
+
 abbrev delayed-diamond : ℕ → ℕ → ℕ → ℕ → List ℕ
-delayed-diamond a b c d = file-in 2 128 12 (diamond-gates 128 128 128 128) (to-in 0 1 a ∷ to-in 0 2 b ∷ to-in 1 3 c ∷ to-in 2 3 d ∷ [])
+delayed-diamond a b c d = encode (delayed-netlist a b c d)
 
 -- "one gate, delay 5, step (2,3), deadline 8"
 abbrev one-gate : List ℕ

@@ -36,9 +36,10 @@ fn run(files: usize, seed: u64) {
                 compared.files
             );
             println!(
-                "compare: seed {seed}: of the second run's random files {}; of those sized {}",
+                "compare: seed {seed}: of the second run's random files {}; of those sized {}, {} in finer ticks too",
                 elevens(&compared.places),
-                compared.sized
+                compared.sized,
+                compared.finer
             );
         }
         Err(difference) => {

@@ -4,8 +4,10 @@ use super::{Case, MOST_LISTS, MOST_WIRES};
 use crate::block::{encode, Block, MAX_WIRES};
 use crate::boundaries::{self, Boundary};
 use crate::edition::MAX_EDITION;
+use crate::finer::scaled;
 use crate::generate::editions::{in_edition_3, set_activities, with_activities, with_wire_delays};
 use crate::generate::editions::{WireDelays, ALL_ACTIVITIES, ALL_WIRE_DELAYS};
+use crate::generate::finer::{block_to_scale, small_block_to_scale, FACTORS};
 use crate::generate::ties::{has_ties, tied_block};
 use crate::generate::{self, any_block, bridged_block, Values, Wires, ALL_VALUES};
 use crate::random::Random;
@@ -19,6 +21,9 @@ const FEW_LISTS: u64 = 2_000;
 const FEW_WIRES: usize = 8;
 /// Blocks with ties of each edition.
 const TIED: usize = 100;
+/// Random blocks that are stored once more in finer ticks, of each edition, and the most lists of the middle ones in these.
+const SCALED: usize = 70;
+const MIDDLE_LISTS: u64 = 500_000;
 
 /// A case of each file, with one gate after another as the one whose width is passed.
 fn of_files(files: impl Iterator<Item = Vec<u8>>) -> impl Iterator<Item = Case> {
@@ -224,6 +229,38 @@ fn ties() -> Vec<Case> {
     cases
 }
 
+/// A block in an edition and an m, such that the block still fits a file in ticks m times as fine. In these, two of five are so
+/// small that the second opinion tries every list, one that the exhaustive search does, and two have 12 to 64 gates.
+fn block_with_factor(random: &mut Random, edition: u8, round: usize) -> (Block, u32) {
+    let few = [2, 3, 4, 5, 10];
+    let m = if round % 5 < 2 { few[round / 5 % 5] } else { FACTORS[round / 5 % FACTORS.len()] };
+    let block = match round % 5 {
+        0 | 1 => small_block_to_scale(random, edition, m, FEW_LISTS, FEW_WIRES),
+        2 => small_block_to_scale(random, edition, m, MIDDLE_LISTS, MOST_WIRES),
+        _ => {
+            let gates = 12 + random.below(53);
+            block_to_scale(random, edition, gates, m, u64::MAX)
+        }
+    };
+    (block, m)
+}
+
+/// The cases that came with finer ticks (document 02, K14): blocks worked out by hand, and random blocks in every edition, each
+/// followed by the same in ticks m times as fine.
+fn finer() -> Vec<Case> {
+    let random = &mut Random::from_seed(8_016);
+    let mut cases: Vec<Case> = of_worked(worked::finer::all()).collect();
+    for round in 0..SCALED {
+        for edition in 1..=MAX_EDITION {
+            let (block, m) = block_with_factor(random, edition, round);
+            let finer = scaled(&block, m).expect("a block that fits a file");
+            cases.push(Case::of(encode(&block), round));
+            cases.push(Case { finer: Some(m), ..Case::of(encode(&finer), round) });
+        }
+    }
+    cases
+}
+
 /// The cases once more in a later edition, but for those that are such already, and for those of files that cannot be read.
 fn twins(cases: &[Case], edition: u8, restated: fn(Block) -> Block) -> Vec<Case> {
     let first = cases.iter().enumerate().filter(|(_, case)| case.twin_of.is_none());
@@ -238,5 +275,6 @@ pub fn all() -> Vec<Case> {
     cases.extend(twins(&cases, 3, in_edition_3));
     cases.extend(edition_3());
     cases.extend(ties());
+    cases.extend(finer());
     cases
 }

@@ -240,3 +240,40 @@ fn another_order_of_ties_is_noticed() {
         answer
     }));
 }
+
+/// The list and saving of the file itself, its list with the right saving, and one tick more at a gate, in place of m times as
+/// much; a refusal in place of a list, and another place of a refusal.
+#[test]
+fn another_answer_in_finer_ticks_is_noticed() {
+    let file = encode(&worked::diamond(10));
+    let finer = finer_file(&file, 10).expect("a block that fits a file");
+    let noticed = |call: Call| finer_difference(call, &file, &finer, 10).is_some();
+    assert!(!noticed(&mut right) && finer_difference(&mut right, &file, &finer, 5).is_some());
+    assert_eq!(finer_file(&encode(&worked::diamond(6_554)), 10), None);
+    assert!(noticed(&mut |_, lent| right(&file, lent)));
+    assert!(noticed(&mut |asked, lent| Answer {
+        saving: right(asked, &mut lent.to_vec()).saving,
+        ..right(&file, lent)
+    }));
+    assert!(noticed(&mut |asked, lent| {
+        let answer = right(asked, lent);
+        lent[15] += u8::from(asked == finer);
+        answer
+    }));
+    let refused = |place| Answer { number: 12, place, saving: 0 };
+    assert!(noticed(&mut |asked, lent| if asked == finer { refused(0) } else { right(asked, lent) }));
+    assert!(noticed(&mut |asked, _| refused(u32::from(asked == finer))));
+    assert!(!noticed(&mut |_, _| refused(0)));
+}
+
+/// A call that is right but for a file that says the same as the one before in finer ticks, which it answers as that one.
+#[test]
+fn finer_files_are_among_those_compared() {
+    let mut last = Vec::new();
+    assert!(noticed(&mut |file, lent| {
+        if ![2, 3, 5, 10].iter().any(|&m| finer_file(&last, m).as_deref() == Some(file)) {
+            last = file.to_vec();
+        }
+        right(&last, lent)
+    }));
+}

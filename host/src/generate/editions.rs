@@ -97,10 +97,15 @@ pub fn with_activities(random: &mut Random, mut block: Block, activities: Activi
     block
 }
 
-/// The block as it is; in edition 2 with wire delays of any kind; or in edition 3, with measured activities of any kind
-/// besides.
+/// A block of edition 1 in any edition.
 pub fn in_any_edition(random: &mut Random, block: Block) -> Block {
-    let edition = random.between(1, u32::from(MAX_EDITION));
+    let edition = random.between(1, u32::from(MAX_EDITION)) as u8;
+    in_edition(random, block, edition)
+}
+
+/// A block of edition 1 as it is; in edition 2 with wire delays of any kind; or in edition 3, with measured activities of any
+/// kind besides.
+pub fn in_edition(random: &mut Random, block: Block, edition: u8) -> Block {
     if edition == 1 {
         return block;
     }

@@ -1,5 +1,5 @@
-//! Answers that were worked out by hand: document 01's, those of blocks with wire delays, with measured activities and with
-//! ties, and those at the boundaries of the refusals.
+//! Answers that were worked out by hand: document 01's, those of blocks with wire delays, with measured activities, with ties and
+//! in finer ticks, and those at the boundaries of the refusals.
 
 use reference::answers;
 use reference::block::{decode, encode, Refusal, MAX_GATES};

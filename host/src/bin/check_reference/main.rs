@@ -1,6 +1,7 @@
 //! Checks the reference: against answers by hand, document 01's own among them, and its methods against each other.
 
 mod by_hand;
+mod finer;
 mod networks;
 mod sizing;
 
@@ -39,4 +40,6 @@ fn main() {
     println!("order of ties against list merging: {blocks} blocks, {counted}, {gates} gates");
     println!("curves against best lists: {} blocks", sizing::check_curve(random));
     println!("damaged files: {} read", sizing::check_damage(random));
+    println!("finer ticks against every list: {}", finer::check_small(random));
+    println!("finer ticks by flows: {}", finer::check_large(random));
 }
