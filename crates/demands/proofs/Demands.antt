@@ -199,7 +199,7 @@ module _ {file : List ℕ} {B : Block} (well : WellFormed file B) where
   pub left-when-not-built : ((g : ℕ) × Remains B g) ↔ NotBuilt B
   left-when-not-built = both (left-exactly (as-network well)) not-series-parallel
 
-  -- DOCUMENT 02, K14. "Finer ticks gain nothing": of the block of every file, for any whole m of 1 or more, so that the scaled block need fit no file.
+  -- DOCUMENT 02, K14. "Finer ticks gain nothing": for the block of every well-formed file and any whole m of 1 or more; the scaled block need not fit a file.
   pub finer-ticks-gain-nothing : SeriesParallel B → (m : ℕ) → 1 ≤ m → FinerTicks m B
   finer-ticks-gain-nothing sp m some = finer-ticks B m some sp (as-network well .below) (descending B (limits well))
 
