@@ -80,8 +80,8 @@ fn said(call: Call, file: &[u8]) -> Result<Best, Answer> {
     if answer.number != 0 {
         return Err(answer);
     }
-    let increase = |bytes: &[u8]| bytes.iter().fold(0, |number, &byte| 256 * number + u32::from(byte));
-    let increases = lent.chunks(4).take(answer.place as usize).map(increase).collect();
+    let increase = |bytes: &[u8]| u32::from_be_bytes(bytes.try_into().expect("four bytes"));
+    let increases = lent.chunks_exact(4).take(answer.place as usize).map(increase).collect();
     Ok(Best { increases, saving: answer.saving })
 }
 

@@ -62,7 +62,7 @@ module _ (m : ℕ) where
       (λ p z. beside-left (stretch m a) (stretch m b) p z)
       (λ p q. beside-both (stretch m a) (stretch m b) p q ∙ rw (mul-min m (a .width) (b .width)) refl)
 
-  pub zeros-times : (t : Tree) → zeros (scale m t) ≡ times m t (zeros t)
+  zeros-times : (t : Tree) → zeros (scale m t) ≡ times m t (zeros t)
   zeros-times (wire w) = refl
   zeros-times (series P g Q) = rw (zeros-times P, zeros-times Q, mul-zero) refl
   zeros-times (parallel P Q) = rw (zeros-times P, zeros-times Q) refl
@@ -84,7 +84,7 @@ module _ (m : ℕ) where
   joined-widened (p ∷ ps) = rw (joined-widened ps) (onto-widened p (joined ps))
 
   module _ (d e : ℕ → ℕ) (slower : (g : ℕ) → e g ≡ m * d g) where
-    pub longest-stretch : (t : Tree) (s : St t) → longest e (scale m t) (times m t s) ≡ m * longest d t s
+    longest-stretch : (t : Tree) (s : St t) → longest e (scale m t) (times m t s) ≡ m * longest d t s
     longest-stretch (wire w) s = refl
     longest-stretch (series P g Q) s = rw (longest-stretch P (s .0), longest-stretch Q (s .2), slower g) (simp mul-add refl)
     longest-stretch (parallel P Q) s = rw (longest-stretch P (s .0), longest-stretch Q (s .1)) (mul-max m _ _)

@@ -76,7 +76,7 @@ pub in-tenths-by-theorem : HasCurve tenths
 in-tenths-by-theorem =
     by-tree whole-ticks (all-compute .0)
     (λ t f is.
-    finer-ticks D 10 (omega arith) (f .0) (ascending-network D (all-compute .0 .0) .below) falls .curve 7 (8 * U) (whole-ticks .pairs) in-whole-ticks)
+    finer-ticks D 10 (omega arith) (f .0) (ascending-network D (all-compute .0 .0) .below) falls .curve _ _ _ in-whole-ticks)
 
 -- half a tick behind the start: 80U at the start, and 5 of the 10 ticks of 12U that were one
 pub half-a-tick : BestSaving (scaled 10 D) 75 (140 * U)
