@@ -1,22 +1,20 @@
 /* How much stack a call takes on the blocks of 64 gates that nest deepest, in every edition: stack BYTES fails where one
-   takes more. */
+   takes more. The call is the one that it is linked with: stack_layout.c or stack_ticks.c. */
 
 #define _GNU_SOURCE
-#include "honduvi.h"
+#include "stack.h"
 
 #include <stdio.h>
 #include <stdlib.h>
 #include <string.h>
 #include <ucontext.h>
 
-#define GATES 64
 #define STACK (1 << 20)
 #define PAINT 0xa5
 
-static uint8_t file[4096];
-static size_t length;
+uint8_t file[4096];
+size_t length;
 static int edition;
-static uint8_t increases[4 * GATES];
 static ucontext_t caller, callee;
 
 static void put(uint8_t byte)
@@ -63,10 +61,9 @@ static void beside(void)
         put_wire(0, g), put_wire(g, GATES - 1);
 }
 
-static void call(void)
+void unexpected(void)
 {
-    if (honduvi_best_increases(file, length, increases, sizeof increases).number != 0)
-        puts("stack: a block was refused"), exit(1);
+    puts("stack: a block was answered otherwise than it should be"), exit(1);
 }
 
 static void nothing(void)
@@ -105,7 +102,7 @@ int main(int count, char **arguments)
             put_gates();
             shapes[i].wires();
             size_t bytes = taken(call) - taken(nothing);
-            printf("stack: edition %d, %s of %d gates takes %zu bytes\n", edition, shapes[i].name, GATES, bytes);
+            printf("stack: %s, edition %d, %s of %d gates takes %zu bytes\n", call_name, edition, shapes[i].name, GATES, bytes);
             right = right && bytes <= most;
         }
     if (!right)

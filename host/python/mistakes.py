@@ -2,6 +2,8 @@
 
 from copy import copy
 
+from ticks import Asked, ticks_word
+
 WIRES_MISTAKEN = 4
 
 
@@ -50,9 +52,13 @@ def wrong_answers(lines):
 
 
 def wrong_places(lines):
-    """The lines of a case that got 11, each time with one place 0."""
+    """The lines of a case that got 11, each time with one place 0, and with 17, no tick or no answer for a wanted saving."""
     yield lines[:2] + ["curve refused 11 0 kept"] + lines[3:]
     yield lines[:3] + ["best refused 11 0 kept"] + lines[4:]
+    words = lines[4].split(" ")
+    for i, right in enumerate(words[1:], 1):
+        for wrong in (["11:0"], ["17:0"], ["0"], [], ["10:512"], [right, right]):
+            yield lines[:4] + [" ".join(words[:i] + wrong + words[i + 1 :])] + lines[5:]
 
 
 def mistaken_delays(block):
@@ -129,3 +135,27 @@ def wrong_order(case, lines, best):
     """The lines of a case, each time with all of them, or one of them, as another best list would give them, where that makes a
     difference."""
     yield from different(lines, all_or_one(lines, case.lines_with(case.block, best)))
+
+
+# How the fewest ticks for a wanted saving can be mistaken (ticks.py says what is asked).
+TICKS_MISTAKES = {
+    "a tick too few": Asked.rounded_down,
+    "more in place of at least": Asked.more_than_wanted,
+    "the saving at start not counted": Asked.without_start,
+    "the last pair left out": Asked.without_last_pair,
+    "ends of pairs alone": Asked.end_of_pair,
+    "one tick at least": lambda asked: 1 if asked.ticks == 0 else asked.ticks,
+    "17 in place of an answer": lambda asked: None,
+    "an answer in place of 17": lambda asked: sum(asked.pairs[0::2]) if asked.ticks is None else asked.ticks,
+    "17 beyond the block's own spare": Asked.within_spare,
+    "12 for a late block": lambda asked: "12:0" if asked.spare < 0 else asked.ticks,
+}
+
+
+def wrong_ticks(asked, lines, mistaken):
+    """The lines of a case, each time with all numbers of ticks, or one of them, mistaken in one way, where that makes a
+    difference."""
+    right = [ticks_word(each.ticks) for each in asked]
+    wrong = [ticks_word(mistaken(each)) for each in asked]
+    for words in different(right, all_or_one(right, wrong)):
+        yield lines[:4] + [" ".join(["ticks"] + words)] + lines[5:]

@@ -1,16 +1,20 @@
-"""A second reader of document 01, and of K1, K2, K3, K8 and K14 in document 02, in another language: holds the stored cases to
-them.
+"""A second reader of document 01, and of K1, K2, K3, K6, K8 and K14 in document 02, in another language: holds the stored cases
+to them.
 
 second_opinion.py DIR reads DIR/stdin and DIR/stdout as host/CASES.md describes them. Which lines there are, refusals, slacks
 and judging are checked for every case, the place of 11 by taking gates away and merging wires in several orders; the best list
 and the curve of small blocks by trying everything. Of a larger block's curve are checked start, count, widths, falling gains,
 its length and what all of it earns, which no search is needed for; of its best list that it is in time, saves what is stated
 and what the curve says, slows no gate that gains nothing, and comes before those as good with one tick moved to another gate.
+The fewest ticks for a wanted saving are found by trying every list of a small block, and by counting off the curve of a larger
+one; they are also held to what all ticks earn, to the least spare with which all are in time, and to the best list at the
+block's own spare.
 Where a block is the one before it in ticks m times as fine, its slacks, curve and best list are held to m times those before,
-its gains to the same.
+its gains to the same, and so are the fewest ticks for m times a saving that some number of ticks earns exactly.
 At the end mistakes are put into the lines of some larger blocks, given an answer or refused with 11, and into those of some
 blocks with wire delays or with measured activities the lines that mistaken delays or activities would give, and into those of
-some blocks with ties the lines of a best list that comes later (mistakes.py); each must be noticed.
+some blocks with ties the lines of a best list that comes later, and into those of some of all sizes, late ones among them,
+mistaken numbers of ticks (mistakes.py); each must be noticed.
 """
 
 import itertools
@@ -22,7 +26,9 @@ from random import Random
 
 from editions import MOST_ACTIVITY, MOST_SWITCHING, WIRE_LENGTH, activity, is_measured
 from finer import in_finer_words, times_as_fine
-from mistakes import ACTIVITY_MISTAKES, wrong_activities, wrong_answers, wrong_delays, wrong_lines, wrong_order, wrong_places
+from mistakes import ACTIVITY_MISTAKES, TICKS_MISTAKES, wrong_activities, wrong_answers, wrong_delays, wrong_lines, wrong_order
+from mistakes import wrong_places, wrong_ticks
+from ticks import BEYOND, Asked, counted_off, fewest_on, ticks_word
 
 MOST_LISTS = 2_000
 MOST_WIRES = 8
@@ -32,7 +38,10 @@ BLOCKS_APART = 5
 # so many blocks given an answer must stand there in finer ticks too
 LEAST_FINER = 100
 MOST_PAIRS = 512
-ALWAYS = ["case", "slacks", "curve", "best", "judge"]
+# bytes of a record in front of its wanted savings, and the most of these
+HEAD = 13
+MOST_WANTED = 8
+ALWAYS = ["case", "slacks", "curve", "best", "ticks", "judge"]
 WITH_SLACKS = ["more", "beyond", "largest"]
 
 
@@ -341,7 +350,8 @@ def from_gate_0(increases):
 
 @lru_cache(maxsize=None)
 def tied_and_curve(block):
-    """The greatest saving in time, every list that has it, and the curve as words, from every list."""
+    """The greatest saving in time, every list that has it, the curve as words, and the greatest saving of the lists that make
+    the longest path longer by so many ticks, from every list."""
     start = block.longest([0] * block.n)
     most, tied, savings = 0, [], {}
     for increases, longest, saving in block.every_list():
@@ -356,12 +366,19 @@ def tied_and_curve(block):
         reached += gains[-1]
     pairs = [(len(list(run)), gain) for gain, run in itertools.groupby(gains) if gain]
     curve = [start, savings[0], len(pairs)] + [value for pair in pairs for value in pair]
-    return most, tied, in_words(curve)
+    return most, tied, in_words(curve), savings
+
+
+def fewest_ticks(block, wanted):
+    """The fewest spare ticks with which some list saves at least the wanted (document 02, K6), from every list; None if none
+    does."""
+    savings = tied_and_curve(block)[3]
+    return min((ticks for ticks, saving in savings.items() if saving >= wanted), default=None)
 
 
 def best_list(block, order):
     """Of all lists in time the one that saves most and, of those, comes first in this order, its saving in front, as words."""
-    saving, tied, _ = tied_and_curve(block)
+    saving, tied, *_ = tied_and_curve(block)
     return in_words((saving, *min(tied, key=order))) if tied else "refused 12 0"
 
 
@@ -379,15 +396,6 @@ def settled(block):
     return "refused 12 0" if block.spare() < 0 else None, None
 
 
-def counted_off(words, spare):
-    """What a printed curve says is the best saving at a spare."""
-    total = words[1]
-    for width, gain in zip(words[3::2], words[4::2]):
-        total += min(width, spare) * gain
-        spare -= min(width, spare)
-    return total
-
-
 @lru_cache(maxsize=1)
 def read(data):
     """The block, or its refusal in words."""
@@ -402,9 +410,12 @@ class Case:
         self.count = count
         self.lent, self.lent_widths, self.lent_gains = record[2], number(record, 3), number(record, 5)
         self.gate, self.beyond = record[7], int.from_bytes(record[8:12], "big")
+        behind = HEAD + 8 * record[12]
+        self.wanted = [int.from_bytes(record[at : at + 8], "big") for at in range(HEAD, behind, 8)]
+        self.ends_in_blank = any(line.endswith(" ") for line in lines)
         self.names = [line.split(" ")[0] for line in lines]
         self.lines = {name: line[len(name) + 1 :] for name, line in zip(self.names, lines)}
-        self.block, self.refused = read(record[12:])
+        self.block, self.refused = read(record[behind:])
 
     def hold(self, right, name, what):
         if not right:
@@ -425,10 +436,12 @@ class Case:
         """Whether the best list and the curve were found by trying everything."""
         given = not self.refused and self.lent >= self.block.n
         self.hold(self.names == ALWAYS + (WITH_SLACKS if given else []), "case", "other lines belong to it")
+        self.hold(not self.ends_in_blank, "case", "a line ends in a blank")
         self.expect("case", str(self.count))
         if self.refused:
             for name in ("slacks", "curve", "best"):
                 self.expect(name, self.refused + " kept")
+            self.expect("ticks", self.refused_ticks(self.refused))
             self.expect("judge", self.refused)
             return False
         short = "refused 10 %d" % self.block.n
@@ -440,6 +453,7 @@ class Case:
         self.expect("slacks", (in_words(self.block.slacks()) if given else short) + " kept")
         self.expect("curve", curve + " kept") if curve else self.check_curve()
         self.expect("best", best + " kept") if best else self.check_best()
+        self.check_ticks()
         self.check_judging() if given else self.expect("judge", short)
         return self.block.is_small()
 
@@ -451,6 +465,9 @@ class Case:
             return False
         for name in ("slacks", "curve", "best"):
             self.expect(name, in_finer_words(name, before.lines[name], m))
+        for i, ticks in before.exact_ticks():
+            self.hold(self.wanted[i] == m * before.wanted[i], "ticks", "%d should be wanted" % (m * before.wanted[i]))
+            self.hold(self.lines["ticks"].split(" ")[i] == str(m * ticks), "ticks", "%d should be needed" % (m * ticks))
         return self.is_given()
 
     def check_curve(self):
@@ -475,10 +492,54 @@ class Case:
         still = [x for x, activity in zip(increases, self.block.activity) if activity == 0]
         self.hold(not any(still), "best", "a gate is slowed that gains nothing")
         if not self.lines["curve"].startswith("refused"):
-            counted = counted_off(self.numbers("curve", 3), self.block.spare())
+            _, at_start, _, *pairs = self.numbers("curve", 3)
+            counted = counted_off(at_start, pairs, self.block.spare())
             self.hold(counted == saving, "best", "the curve says %d" % counted)
         # with a tick of gate g at one of the gates range(g), those below it, the list would come first
         self.hold(not any(self.block.moves(increases, range)), "best", "a tick belongs to a lower gate")
+
+    def refused_ticks(self, refused):
+        """The words of the fewest ticks, where all of them are refused."""
+        _, number, place = refused.split(" ")
+        return " ".join(["%s:%s" % (number, place)] * len(self.wanted))
+
+    def ticks_with(self, block):
+        """The words of the fewest ticks of a block, by trying every list, or by counting off the stored curve."""
+        _, curve = settled(block)
+        if curve and curve.startswith("refused"):
+            return self.refused_ticks(curve)
+        if block.is_small():
+            return in_words(ticks_word(fewest_ticks(block, wanted)) for wanted in self.wanted)
+        _, at_start, _, *pairs = self.numbers("curve", 3)
+        return in_words(ticks_word(fewest_on(at_start, pairs, wanted)) for wanted in self.wanted)
+
+    def check_ticks(self):
+        """The fewest ticks for each wanted saving. The block's own arrival and deadline play no part, and nothing is lent."""
+        self.expect("ticks", self.ticks_with(self.block))
+        block, every = self.block, self.block.earning()
+        most, whole = block.longest(every) - block.longest([0] * block.n), block.saving(every)
+        best = None if self.lines["best"].startswith("refused") else int(self.lines["best"].split(" ")[0])
+        for wanted, word in zip(self.wanted, self.lines["ticks"].split()):
+            if word.startswith("11:"):
+                continue
+            ticks = float("inf") if word == BEYOND else int(word)
+            self.hold((word == BEYOND) == (wanted > whole), "ticks", "all ticks earn %d" % whole)
+            self.hold(wanted != whole or ticks == most, "ticks", "%d let every tick that earns be in time" % most)
+            as_best = best is None or (ticks <= block.spare()) == (wanted <= best)
+            self.hold(as_best, "ticks", "the best list saves %s with %d" % (best, block.spare()))
+
+    def asked(self):
+        """What was wanted of a block that gets its curve, and the ticks that are stored."""
+        _, at_start, _, *pairs = self.numbers("curve", 3)
+        ticks = [None if word == BEYOND else int(word) for word in self.lines["ticks"].split()]
+        return [Asked(at_start, pairs, *each, self.block.spare()) for each in zip(self.wanted, ticks)]
+
+    def exact_ticks(self):
+        """The wanted savings that some number of ticks earns exactly: where each stands, and the ticks."""
+        if self.lines["curve"].startswith("refused"):
+            return []
+        given = [(i, each) for i, each in enumerate(self.asked()) if each.ticks is not None]
+        return [(i, each.ticks) for i, each in given if each.earned() == each.wanted]
 
     def got_11(self):
         return all(self.lines[name].startswith("refused 11 ") for name in ("curve", "best"))
@@ -486,6 +547,10 @@ class Case:
     def is_given(self):
         """Whether curve and best list are given."""
         return "refused" not in self.lines["curve"] + self.lines["best"]
+
+    def is_late(self):
+        """Whether the curve is given, and no list is in time."""
+        return "refused" not in self.lines["curve"] and self.lines["best"] == "refused 12 0 kept"
 
     def has_to_choose(self):
         """Whether curve and best list are given, and spare lies within a curve of two pairs or more."""
@@ -506,12 +571,14 @@ class Case:
 
     def kinds(self, small):
         """The kinds of cases that it is one of, for the mistakes; small are those that were found by trying everything. Those with
-        ties are for mistakes in their order alone."""
+        ties are for mistakes in their order alone, and those that are late, with two pairs or more, for mistaken ticks."""
         if not small and self.got_11():
             return ["11"]
+        size = "small" if small else "large"
+        if self.is_late() and self.numbers("curve", 3)[2] > 1:
+            return [size + ", late"]
         if not (self.is_given() if small else self.has_to_choose()):
             return []
-        size = "small" if small else "large"
         if self.later_list(small):
             return [size + ", tied"]
         has_delays, measured = any(self.block.wire_delay.values()), is_measured(self.block.edition)
@@ -550,6 +617,7 @@ class Case:
         increases = [0] * block.n if best.startswith("refused") else list(map(int, best.split(" ")[1:]))
         slacks = in_words(block.slacks())
         lines = {"case": self.lines["case"], "slacks": slacks + " kept", "curve": curve + " kept", "best": best + " kept"}
+        lines["ticks"] = self.ticks_with(block)
         lines.update(self.judging(block, increases))
         return ["%s %s" % line for line in lines.items()]
 
@@ -576,7 +644,9 @@ def stored_cases(data, text):
         raise Wrong("the output does not begin or end as it should")
     at = count = 0
     while at < len(data) and count + 1 < len(starts):
-        length = 12 + number(data, at)
+        if at + HEAD > len(data) or data[at + 12] > MOST_WANTED:
+            raise Wrong("record %d has no whole head" % count)
+        length = HEAD + 8 * data[at + 12] + number(data, at)
         yield count, data[at : at + length], lines[starts[count] : starts[count + 1]]
         at, count = at + length, count + 1
     if at != len(data) or count + 1 != len(starts):
@@ -623,6 +693,20 @@ def put_into_order(last):
     return total
 
 
+def put_into_ticks(last):
+    """The same with mistaken numbers of ticks; each kind of mistake changes the lines of some blocks, smaller and larger ones,
+    in time and late, but for 12, which blocks in time do not get by mistake."""
+    total = 0
+    for kind in ("small", "large", "small, late", "large, late"):
+        for name, mistaken in TICKS_MISTAKES.items():
+            mistakes = [wrong_ticks(Case(*stored).asked(), stored[2], mistaken) for stored in last(kind)]
+            noticed = [mistakes_noticed(*each) for each in zip(last(kind), mistakes)]
+            if not any(noticed) and ("late" in kind or "late" not in name):
+                raise Wrong("ticks mistaken by %s change the lines of no block: %s" % (name, kind))
+            total += sum(noticed)
+    return total
+
+
 def check_all(data, text):
     """Holds every record to the lines printed for it; then puts mistakes into some of the last cases of each kind."""
     count = tried = finer = 0
@@ -647,9 +731,9 @@ def check_all(data, text):
         return kinds[kind][-BLOCKS_MISTAKEN * BLOCKS_APART :: BLOCKS_APART]
 
     said = "%d cases, %d of them by trying every list, %d given m times the answers of the case before; %d mistakes put in were "
-    said += "noticed, and %d of wire delays, %d of activities, %d of the order of ties"
-    mistakes = put_into_lines(last), put_into_delays(last), put_into_activities(last), put_into_order(last)
-    return said % (count, tried, finer, *mistakes)
+    said += "noticed, and %d of wire delays, %d of activities, %d of the order of ties, %d of the fewest ticks"
+    kinds_of_mistakes = put_into_lines, put_into_delays, put_into_activities, put_into_order, put_into_ticks
+    return said % (count, tried, finer, *[put_into(last) for put_into in kinds_of_mistakes])
 
 
 def main():

@@ -8,6 +8,9 @@ use crate::{exact, network, parts, timing};
 /// Elements that the curve's two slices need.
 pub const MAX_PAIRS: usize = 512;
 
+/// The fewest ticks for one wanted saving (document 02, K6), or the refusal.
+pub type TicksAnswer = Result<u64, Refusal>;
+
 /// What the three calls that write to lent slices answer for one file.
 #[derive(Clone, Debug, PartialEq, Eq)]
 pub struct Answers {
@@ -50,6 +53,31 @@ pub fn curve(file: &[u8], lent_widths: usize, lent_gains: usize) -> Result<Curve
     Ok(exact::curve(&block))
 }
 
+/// The first number of ticks, counted off the curve, that earns the wanted saving, by halving the range that it lies in; 17 where
+/// the whole curve earns less.
+pub fn fewest_on(curve: &Curve, wanted: u64) -> TicksAnswer {
+    let (mut least, mut most) = (0, curve.ticks());
+    if curve.counted_off(most) < wanted {
+        return refuse(17, 0);
+    }
+    while least < most {
+        let middle = (least + most) / 2;
+        if curve.counted_off(middle) < wanted {
+            least = middle + 1;
+        } else {
+            most = middle;
+        }
+    }
+    Ok(most)
+}
+
+/// The fewest spare ticks, in place of the file's own, with which some list saves at least the wanted (document 02, K6). Only the
+/// file is lent, so there is no 10, and the block's own arrival and deadline play no part, so there is no 12.
+pub fn fewest_ticks(file: &[u8], wanted: u64) -> TicksAnswer {
+    let curve = curve(file, MAX_PAIRS, MAX_PAIRS)?;
+    fewest_on(&curve, wanted)
+}
+
 /// The best list of a well-formed block, where the slice has `lent` elements of which `needed` are wanted.
 fn best_of(block: &Block, lent: usize, needed: usize) -> Result<Best, Refusal> {
     if lent < needed {
@@ -82,4 +110,26 @@ pub fn judge(file: &[u8], lent: &[u32]) -> Result<u64, Refusal> {
         return refuse(10, n);
     }
     timing::judge(&block, &lent[..n])
+}
+
+#[cfg(test)]
+mod tests {
+    use super::*;
+
+    #[test]
+    fn the_fewest_ticks_on_a_curve_by_hand() {
+        let curve = Curve { start: 5, at_start: 10, pairs: vec![(3, 3), (2, 2)] };
+        let savings = [10, 13, 16, 19, 21, 23];
+        for wanted in 0..=23 {
+            let first = savings.iter().position(|&saving| saving >= wanted).expect("a saving") as u64;
+            assert_eq!(fewest_on(&curve, wanted), Ok(first), "{wanted}");
+        }
+        assert_eq!([24, u64::MAX].map(|wanted| fewest_on(&curve, wanted)), [refuse(17, 0), refuse(17, 0)]);
+    }
+
+    #[test]
+    fn without_pairs_only_the_saving_at_start_is_reached() {
+        let curve = Curve { start: 0, at_start: 7, pairs: Vec::new() };
+        assert_eq!([0, 7, 8].map(|wanted| fewest_on(&curve, wanted)), [Ok(0), Ok(0), refuse(17, 0)]);
+    }
 }

@@ -1,8 +1,9 @@
 //! Every refusal that a file can get, at its boundaries, and 11 with its place: each file with the answer of the best
-//! increases, by hand.
+//! increases, by hand. 17, which depends on the wanted saving too, stands in ticks.rs.
 
 pub mod edition_2;
 pub mod edition_3;
+pub mod ticks;
 
 use crate::block::{encode, Block, Gate, Step, Wire};
 use crate::generate::limits::{largest_gain, most_pairs, most_wires};

@@ -1,5 +1,7 @@
 //! The layout editor's call held to the reference, on random files and slices; what calls it is handed in.
 
+pub mod ticks;
+
 use crate::answers::layout_call;
 use crate::block::{decode, encode, MAX_GATES};
 use crate::finer::{scaled, scaled_best};
@@ -9,6 +11,16 @@ use crate::random::Random;
 use crate::search::Best;
 use crate::{boundaries, damage, text, worked};
 use std::collections::HashSet;
+use std::time::SystemTime;
+
+/// How many files a program is to compare, and from which seeds, by its arguments [FILES [SEED]]: without a seed from a fixed one
+/// and from one by the clock.
+pub fn files_and_seeds() -> (usize, Vec<u64>) {
+    let numbers: Vec<u64> = std::env::args().skip(1).map_while(|word| word.parse().ok()).collect();
+    let now = SystemTime::now().duration_since(SystemTime::UNIX_EPOCH).map_or(0, |d| d.as_secs());
+    let files = *numbers.first().unwrap_or(&3_000) as usize;
+    (files, numbers.get(1).map_or(vec![1, now], |&seed| vec![seed]))
+}
 
 /// What the call returns: number 0 with the gate count and the saving, or a refusal with its place and saving 0.
 #[derive(Clone, Copy, Debug, PartialEq, Eq)]
@@ -130,12 +142,16 @@ pub fn elevens(places: &[u32]) -> String {
     format!("{} got 11, at {} different places", places.len(), different.len())
 }
 
+/// Files that are compared before random ones: boundaries and worked cases.
+fn fixed_files() -> Vec<Vec<u8>> {
+    worked::all().into_iter().map(|w| w.file).chain(boundaries::all().into_iter().map(|b| b.file)).collect()
+}
+
 /// Compares so many files: boundaries and worked cases, then random ones; the first difference ends it, with the file. It
 /// fails too if the random files are not complete.
 pub fn compare(call: Call, files: usize, seed: u64) -> Result<Compared, String> {
     let random = &mut Random::from_seed(seed);
-    let fixed = worked::all().into_iter().map(|w| w.file).chain(boundaries::all().into_iter().map(|b| b.file));
-    let mut waiting: Vec<Vec<u8>> = fixed.collect();
+    let mut waiting = fixed_files();
     let mut compared = Compared { files: 0, numbers: [0; 13], places: Vec::new(), sized: Counted::default(), finer: 0 };
     while compared.files < files {
         let is_random = waiting.is_empty();

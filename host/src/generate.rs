@@ -3,6 +3,7 @@
 pub mod editions;
 pub mod finer;
 pub mod limits;
+pub mod ticks;
 pub mod ties;
 
 use crate::block::{stands_in, Block, Gate, Step, Wire};

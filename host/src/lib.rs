@@ -1,4 +1,4 @@
-//! A second implementation of document 01 and of document 02's K1, K2, K3, K8 and K14, written from their text: it says what
+//! A second implementation of document 01 and of document 02's K1, K2, K3, K6, K8 and K14, written from their text: it says what
 //! the library under test should answer.
 
 pub mod answers;
@@ -12,6 +12,7 @@ pub mod edition;
 pub mod exact;
 pub mod finer;
 pub mod generate;
+pub mod measure;
 pub mod merging;
 pub mod network;
 pub mod parts;

@@ -1,4 +1,5 @@
-//! The best list, the best saving for every spare, and the curve, by trying every list. For small blocks.
+//! The best list, the best saving for every spare, the curve, and the fewest ticks for a wanted saving, by trying every list. For
+//! small blocks.
 
 use crate::block::Block;
 use crate::timing::{all_paths, gain_of_tick, path_delay};
@@ -19,6 +20,11 @@ pub struct Curve {
 }
 
 impl Curve {
+    /// The ticks of all pairs; more earn nothing.
+    pub fn ticks(&self) -> u64 {
+        self.pairs.iter().map(|pair| pair.0).sum()
+    }
+
     /// The saving with so many spare ticks, counted off from the front; those beyond the end earn 0.
     pub fn counted_off(&self, spare: u64) -> u64 {
         let mut left = spare;
@@ -155,12 +161,35 @@ pub fn curve(block: &Block) -> Option<Curve> {
     Some(Curve { start, at_start: savings[0], pairs })
 }
 
+/// For each of the wanted savings the fewest spare ticks, in place of the block's own, with which some list saves at least so much
+/// (document 02, K6): the least by which a list that does makes the longest path longer; `None` if no list does.
+pub fn each_fewest_ticks(block: &Block, wanted: &[u64]) -> Vec<Option<u64>> {
+    let mut lists = Lists::first(block);
+    let start = lists.longest();
+    let mut fewest: Vec<Option<u64>> = vec![None; wanted.len()];
+    loop {
+        let ticks = lists.longest() - start;
+        for (fewest, _) in fewest.iter_mut().zip(wanted).filter(|(_, wanted)| **wanted <= lists.saving) {
+            *fewest = Some(fewest.map_or(ticks, |found| found.min(ticks)));
+        }
+        if !lists.next() {
+            return fewest;
+        }
+    }
+}
+
+/// The same for one wanted saving.
+pub fn fewest_ticks(block: &Block, wanted: u64) -> Option<u64> {
+    each_fewest_ticks(block, &[wanted])[0]
+}
+
 #[cfg(test)]
 mod tests {
     use super::*;
     use crate::generate::{self, Values, Wires};
     use crate::random::Random;
     use crate::timing;
+    use crate::worked::{diamond, U};
     use std::collections::HashSet;
 
     #[test]
@@ -189,6 +218,21 @@ mod tests {
                 }
             }
             assert_eq!(seen.len() as u64, count_of_lists(&block));
+        }
+    }
+
+    /// D's best savings, 8 20 32 44 56 68 77 86 88 90 92 in U, whatever its deadline.
+    #[test]
+    fn the_fewest_ticks_by_hand() {
+        for deadline in [10, 6, 0] {
+            let block = diamond(deadline);
+            assert_eq!(fewest_ticks(&block, 0), Some(0));
+            for (ticks, saving) in [8, 20, 32, 44, 56, 68, 77, 86, 88, 90, 92].into_iter().enumerate() {
+                let after = (ticks < 10).then_some(ticks as u64 + 1);
+                assert_eq!(fewest_ticks(&block, saving * U), Some(ticks as u64));
+                assert_eq!(fewest_ticks(&block, saving * U + 1), after);
+            }
+            assert_eq!(fewest_ticks(&block, u64::MAX), None);
         }
     }
 }

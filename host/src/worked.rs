@@ -1,10 +1,11 @@
 //! The blocks that document 01 tries by hand, with the answers that it gives for them; for the bridge and the chain of two,
 //! which document 02's K1 and K8 change, the answers given there. Numbers that are left open (some savings, some delays) are
 //! worked out by hand, and so are the answers of some blocks with wire delays, with measured activities, with ties and in finer
-//! ticks (document 02, K2, K3, K8 and K14); no answer comes from a program.
+//! ticks (document 02, K2, K3, K8 and K14), and the fewest ticks for wanted savings (K6); no answer comes from a program.
 
 pub mod edition_3;
 pub mod finer;
+pub mod ticks;
 pub mod ties;
 
 use crate::block::{encode, Block};
@@ -31,6 +32,10 @@ pub enum Expected {
     Judged(&'static [u32], u64),
     /// Judging a list: its refusal.
     NotJudged(&'static [u32], u32, u32),
+    /// Wanted savings, each with the fewest ticks that reach it.
+    Ticks(&'static [(u64, u64)]),
+    /// A wanted saving, and the refusal of the fewest ticks.
+    NoTicks(u64, u32, u32),
     /// The block is series-parallel.
     SeriesParallel,
     /// The whole printout.
@@ -217,6 +222,7 @@ pub fn all() -> Vec<Worked> {
     all.extend(edition_3::all());
     all.extend(ties::all());
     all.extend(finer::all());
+    all.extend(ticks::all());
     all
 }
 

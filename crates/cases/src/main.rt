@@ -1,5 +1,5 @@
-// Runs the four calls on stored block files, and prints what they answer. host/CASES.md describes the input and the output.
-// Numbers and refusals come first, each printed with a blank in front; then the calls that write to lent slices, whose arrays hold a mark in every element before a call; then judging; then the records.
+// Runs the five calls on stored block files, and prints what they answer. host/CASES.md describes the input and the output.
+// Numbers and refusals come first, each printed with a blank in front; then the calls that write to lent slices, whose arrays hold a mark in every element before a call; then the fewest ticks; then judging; then the records.
 use fields::field::number_at;
 use fields::field::wide;
 use libc::STDOUT_FILENO;
@@ -9,11 +9,13 @@ use model::CurveAnswer;
 use model::JudgeAnswer;
 use model::Refusal;
 use model::SlacksAnswer;
+use model::TicksAnswer;
 use model::limits::MAX_BYTES;
 use resizing::best::best_increases;
 use resizing::curve::curve;
 use resizing::judge::judge;
 use resizing::slacks::slacks;
+use resizing::ticks::fewest_ticks;
 ghost use mathlib.Core.Path.{_≡_};
 ghost use Prim.Native.Nat.{_+_, _≤_};
 ghost use lib.ListN.{length};
@@ -241,6 +243,42 @@ fn lend_best(file: &[u8], lent: usize, list: &mut [u32])
     }
 }
 
+// The number of four bytes, high byte first, at a place.
+fn four_bytes(s: &[u8], at: usize) -> u32
+    requires { ⌜ at + 4 ≤ length (now s) ⌝ }
+{
+    number_at(s, at) * 65536 + number_at(s, at + 2)
+}
+
+// The number of eight bytes, high byte first, at a place.
+fn eight_bytes(s: &[u8], at: usize) -> u64
+    requires { ⌜ at + 8 ≤ length (now s) ⌝ }
+{
+    (four_bytes(s, at) as u64) * 4294967296 + four_bytes(s, at + 4) as u64
+}
+
+// The fewest ticks for one wanted saving.
+fn print_fewest(file: &[u8], wanted: u64) {
+    let answer = fewest_ticks(file, wanted);
+    match answer {
+        TicksAnswer::Refused(refusal) => print_refusal(refusal),
+        TicksAnswer::Given { ticks } => print_u32(ticks),
+    }
+}
+
+// The fewest ticks for each wanted saving, of eight bytes, on one line.
+fn print_ticks(file: &[u8], wanted: &[u8])
+    requires { ⌜ length (now wanted) ≤ 64 ⌝ }
+{
+    io::write_all(STDOUT_FILENO, b"ticks");
+    let mut at = 0;
+    while at + 8 <= wanted.len() {
+        print_fewest(file, eight_bytes(wanted, at));
+        at += 8;
+    }
+    end_line();
+}
+
 // The verdict on a list, on a line of its own.
 fn print_judgement(file: &[u8], list: &[u32]) {
     io::write_all(STDOUT_FILENO, b"judge");
@@ -307,24 +345,26 @@ fn smaller(a: usize, b: usize) -> usize
     if a < b { a } else { b }
 }
 
-// The number of four bytes, high byte first, at a place.
-fn four_bytes(s: &[u8], at: usize) -> u32
-    requires { ⌜ at + 4 ≤ length (now s) ⌝ }
-{
-    number_at(s, at) * 65536 + number_at(s, at + 2)
-}
-
-// The best increases, to an array of marks, and the judging of them and of lists that differ from them at one gate.
-fn run_list(file: &[u8], lent: usize, gates: usize, gate: usize, beyond: u32, list: &mut [u32])
-    requires { ⌜ lent ≤ length (now list) ⌝ }
+// The best increases, to an array of marks; the fewest ticks; and the judging of the increases and of lists that differ from them at one gate.
+fn run_list(
+    file: &[u8],
+    wanted: &[u8],
+    lent: usize,
+    gates: usize,
+    gate: usize,
+    beyond: u32,
+    list: &mut [u32],
+)
+    requires { ⌜ (lent ≤ length (now list)) × (length (now wanted) ≤ 64) ⌝ }
 {
     lend_best(file, lent, list);
+    print_ticks(file, wanted);
     print_judgements(file, gates, gate, beyond, &mut list[..lent]);
 }
 
-// One record: a head of 12 bytes, and a block file.
-fn run_case(number: u64, head: &[u8], file: &[u8])
-    requires { ⌜ length (now head) ≡ 12 ⌝ }
+// One record: a head of 13 bytes, the wanted savings, and a block file.
+fn run_case(number: u64, head: &[u8], wanted: &[u8], file: &[u8])
+    requires { ⌜ (length (now head) ≡ 13) × (length (now wanted) ≤ 64) ⌝ }
 {
     io::write_all(STDOUT_FILENO, b"case");
     print_number(number);
@@ -337,29 +377,41 @@ fn run_case(number: u64, head: &[u8], file: &[u8])
     let gates = run_slacks(file, lent);
     run_curve(file, lent_widths, lent_gains);
     let mut list = [MARK; 68];
-    run_list(file, lent, gates, gate, beyond, &mut list);
+    run_list(file, wanted, lent, gates, gate, beyond, &mut list);
 }
 
 // Reads a record's block file into `file` and runs the record, or answers false where the input ends.
-fn run_file(number: u64, head: &[u8], file: &mut [u8]) -> bool
-    requires { ⌜ length (now head) ≡ 12 ⌝ }
+fn run_file(number: u64, head: &[u8], wanted: &[u8], file: &mut [u8]) -> bool
+    requires { ⌜ (length (now head) ≡ 13) × (length (now wanted) ≤ 64) ⌝ }
 {
     let size = smaller(number_at(head, 0) as usize, file.len());
     if io::read_full(0, &mut file[..size]) < size {
         return false;
     }
-    run_case(number, head, &file[..size]);
+    run_case(number, head, wanted, &file[..size]);
     true
+}
+
+// Reads a record's wanted savings into `wanted`, which has room for eight, and runs the record, or answers false where the input ends.
+fn run_wanted(number: u64, head: &[u8], wanted: &mut [u8]) -> bool
+    requires { ⌜ (length (now head) ≡ 13) × (length (now wanted) ≡ 64) ⌝ }
+{
+    let size = smaller(wide(head[12]) as usize, 8) * 8;
+    if io::read_full(0, &mut wanted[..size]) < size {
+        return false;
+    }
+    let mut file = [0u8; MAX_BYTES];
+    run_file(number, head, &wanted[..size], &mut file)
 }
 
 // Reads a record and runs it, or answers false where the input ends.
 fn run_next(number: u64) -> bool {
-    let mut head = [0u8; 12];
-    if io::read_full(0, &mut head) < 12 {
+    let mut head = [0u8; 13];
+    if io::read_full(0, &mut head) < 13 {
         return false;
     }
-    let mut file = [0u8; MAX_BYTES];
-    run_file(number, &head, &mut file)
+    let mut wanted = [0u8; 64];
+    run_wanted(number, &head, &mut wanted)
 }
 
 // At most a million records.

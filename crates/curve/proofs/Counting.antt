@@ -38,20 +38,30 @@ unused ps p = record { width = left-at ps p; gain = here ps p .gain }
 ahead-here : (ps : List Pair) (p : Position) → p .pair < length ps → ahead ps p ≡ unused ps p ∷ drop (suc (p .pair)) ps
 ahead-here ps p h = rw (drop-cons ps (p .pair) no-pair h)
 
+module _ (ps : List Pair) (p : Position) (inside : p .pair < length ps) where
+  -- ticks within what is left of the pair earn its gain ..
+  pub within-here : (k : ℕ) → k ≤ left-at ps p → count-off (ahead ps p) k ≡ k * here ps p .gain
+  within-here k l =
+      ap (λ (qs : List Pair). count-off qs k) (ahead-here ps p inside) ∙ count-off-within (unused ps p) (drop (suc (p .pair)) ps) k l
+
+  -- .. and ticks beyond it are counted off from the next pair on
+  pub beyond-here : (k : ℕ)
+      → count-off (ahead ps p) (left-at ps p + k) ≡ left-at ps p * here ps p .gain + count-off (ahead ps (record { pair = p .pair + 1; used = 0 })) k
+  beyond-here k =
+      ap (λ (qs : List Pair). count-off qs (left-at ps p + k)) (ahead-here ps p inside)
+      ∙ count-off-beyond (unused ps p) (drop (suc (p .pair)) ps) k
+      ∙ sym (rw (add-one (p .pair), without-none (drop (suc (p .pair)) ps)))
+
 -- what is counted off from a position on is what a taking earns and what is counted off from the next
 pub taking-counts : {ps : List Pair} {p : Position} {k : ℕ} {t : Taken} → Taking ps p k t → count-off (ahead ps p) k ≡ t .gain + count-off (ahead ps (t .next)) (k - t .ticks)
 taking-counts {ps} {p} {k} (past h) = rw (sub-zero, zero-add)
 taking-counts {ps} {p} {k} (within h l) =
     let none : k - k ≡ 0 = omega arith in
-    ap (λ (qs : List Pair). count-off qs k) (ahead-here ps p h)
-    ∙ count-off-within (unused ps p) (drop (suc (p .pair)) ps) k l
+    within-here ps p h k l
     ∙ sym (rw (none, count-off-none (ahead ps (record { pair = p .pair; used = p .used + k }))) (add-zero (k * here ps p .gain)))
 taking-counts {ps} {p} {k} (beyond h l) =
     let all : k ≡ left-at ps p + (k - left-at ps p) = omega arith in
-    ap (λ (qs : List Pair). count-off qs k) (ahead-here ps p h)
-    ∙ ap (count-off (unused ps p ∷ drop (suc (p .pair)) ps)) all
-    ∙ count-off-beyond (unused ps p) (drop (suc (p .pair)) ps) (k - left-at ps p)
-    ∙ sym (rw (add-one (p .pair), without-none (drop (suc (p .pair)) ps)))
+    ap (count-off (ahead ps p)) all ∙ beyond-here ps p h (k - left-at ps p)
 
 -- no ticks, or no pairs ahead: nothing is counted off
 none-ahead : (ps : List Pair) (p : Position) (k : ℕ) → (0 < k → length ps ≤ p .pair) → count-off (ahead ps p) k ≡ 0

@@ -30,7 +30,7 @@ module _ (n : ℕ) (ws gs : List ℕ) (p : Position) where
   pub past-pairs : (k : ℕ) → n ≤ p .pair → taken-at (pairs-in n ws gs) p k ≡ none-at p
   past-pairs k h = taken-past (pairs-in n ws gs) p k (rw length-build h)
 
-  here-in : p .pair < n → here (pairs-in n ws gs) p ≡ pair-at ws gs (p .pair)
+  pub here-in : p .pair < n → here (pairs-in n ws gs) p ≡ pair-at ws gs (p .pair)
   here-in h = getD-build n (pair-at ws gs) (p .pair) no-pair h
 
   earns-nothing : (k : ℕ) {t : Taken} → here (pairs-in n ws gs) p .gain ≡ 0 → Taking (pairs-in n ws gs) p k t → t .gain ≡ 0
@@ -83,3 +83,11 @@ module _ (n : ℕ) (ws gs : List ℕ) (p : Position) where
   taken-moves k left taken earned c l =
       let t : taken ≡ left-at (pairs-in n ws gs) p = c .taken-is ∙ min-eq-right (le-of-lt l) ∙ c .left-is in
       rw (c .earned-is, t) (sym (taken-beyond (pairs-in n ws gs) p k (rw length-build (c .inside)) (rw (c .left-is) at l)))
+
+  -- all that is left of the pair, which is what one tick more takes
+  pub taken-rest : (w left g earned : ℕ) → p .pair < n → w ≡ getD ws (p .pair) 0 → left ≡ w - p .used → g ≡ getD gs (p .pair) 0 → earned ≡ left * g
+      → record { next = record { pair = p .pair + 1; used = 0 }; ticks = left; gain = earned } ≡ taken-at (pairs-in n ws gs) p (left-at (pairs-in n ws gs) p + 1)
+  taken-rest w left g earned h ew el eg ee =
+      let is : left ≡ left-at (pairs-in n ws gs) p = el ∙ rw (ew, here-in h) in
+      let all : left ≡ min (left-at (pairs-in n ws gs) p + 1) left = omega arith in
+      taken-moves _ left left earned (computed _ w left left g earned h ew el all eg ee) (omega arith)

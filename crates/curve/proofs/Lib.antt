@@ -4,3 +4,4 @@ pub mod Held
 pub mod Walk
 pub mod Counting
 pub mod Step
+pub mod Reaching

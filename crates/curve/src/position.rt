@@ -1,6 +1,7 @@
 // A position on a curve, by value: each taking of ticks hands back the next position and the gain taken.
 ghost use mathlib.Core.Path.{_≡_};
-ghost use Rattle.curve.specs.Position.{pairs-in, at-front, taken-at, walked};
+ghost use Prim.Native.Nat.{_+_};
+ghost use Rattle.curve.specs.Position.{pairs-in, at-front, left-at, taken-at, walked};
 use crate::number::element;
 use crate::number::left_of;
 use crate::number::product;
@@ -60,6 +61,31 @@ impl Position {
                 used: 0,
             },
             ticks: taken,
+            gain,
+        }
+    }
+
+    // All that is left of the pair that the position stands in, and on to the next pair: what one tick more than is left takes. None past the end.
+    pub fn rest(self, widths: &[u32], gains: &[u32], pairs: usize) -> Taken
+        ensures { λ r. ⌜ r ≡ taken-at (pairs-in pairs (now (widths .entry)) (now (gains .entry))) self (left-at (pairs-in pairs (now (widths .entry)) (now (gains .entry))) self + 1) ⌝ }
+    {
+        let pair = self.pair;
+        let used = self.used;
+        if pair >= pairs {
+            return Taken {
+                next: self,
+                ticks: 0,
+                gain: 0,
+            };
+        }
+        let left = left_of(element(widths, pair), used);
+        let gain = product(left, element(gains, pair));
+        Taken {
+            next: Position {
+                pair: pair + 1,
+                used: 0,
+            },
+            ticks: left,
             gain,
         }
     }

@@ -21,13 +21,13 @@ use Rattle.model.specs.Part.{SeriesParallel}
 use Rattle.model.specs.Slack.{slack, spare}
 use Rattle.model.specs.Refusal.{WellFormed}
 use Rattle.model.specs.Layout.{increase-bytes, list-bytes, GivesLayout, laid, AnswersLayout}
-use Rattle.model.specs.Answer.{Outcome, Slices, accepted, Line, At, Gives, Shorter, Exceeds, PathNotInTime, GivesCurve, curve, CurveLines, GivesBest, best, SizingLines, BestLines, AnswersSlacks, AnswersCurve, AnswersBest, AnswersJudge}
+use Rattle.model.specs.Answer.{Outcome, Slices, accepted, Line, At, Gives, Shorter, Exceeds, PathNotInTime, GivesCurve, curve, CurveLines, GivesBest, best, SizingLines, BestLines, GivesTicks, fewest, TicksLines, AnswersSlacks, AnswersCurve, AnswersBest, AnswersJudge, AnswersTicks}
 use Rattle.model.proofs.Limited.{BlockLimits, read-limits}
 use Rattle.model.proofs.Source.{Along}
 use Rattle.model.proofs.Slack as paths
-use Rattle.ordering.proofs.OrderOrLoop.{block-order}
+use Rattle.ordering.proofs.Numbered.{sound-along}
 use Rattle.parts.specs.Network.{Network}
-use Rattle.shaping.proofs.Facts.{join, network}
+use Rattle.shaping.proofs.Facts.{network}
 use Rattle.demands.proofs.TableLaws.{own-lines, passed}
 
 -- two equivalences, one after the other
@@ -62,6 +62,9 @@ layout-accepts (laid x sp b e) = (ap (λ o. o .answer .number) e, sp)
 pub curve-accepts : {B : Block} {lent : Slices} {o : Outcome Slices} → GivesCurve B lent o → (¬ (o .answer .number ≡ 11)) × SeriesParallel B
 curve-accepts (curve s a ps sp c e) = (λ q. let none = ap (λ o. o .answer .number) e in omega arith, sp)
 
+pub ticks-accepts : {B : Block} {wanted : ℕ} {o : Outcome (Unit {0})} → GivesTicks B wanted o → (o .answer .number ≡ 0) × SeriesParallel B
+ticks-accepts (fewest k sp f e) = (ap (λ o. o .answer .number) e, sp)
+
 -- the lines of slacks from 10 on
 abbrev SlacksLines : List ℤ → Block → Outcome (List ℤ) → Type 0
 SlacksLines lent X = Line lent 10 (Shorter lent (gate-count X)) (Gives (gate-count X ∷ []) (over (build (gate-count X) (slack X)) lent))
@@ -83,17 +86,8 @@ module _ {file : List ℕ} {B : Block} (well : WellFormed file B) where
   pub some-gate : 0 < gate-count B
   some-gate = omega (arith, limits .some-gate)
 
-  -- the gates can be numbered along the wires, since none is on a loop
   pub along : Along (B .wires) (gate-count B)
-  along =
-      let joins = join B limits (well .network) in
-      let order = block-order B joins .1 (well .network .no-loop) .1 in
-      record {
-        place = order .place;
-        below = order .has-place;
-        grows = λ (a b w : ℕ) on. order .forward a b (w, on);
-        in-range = λ (a b w : ℕ) on. joins a b (w, on);
-      }
+  along = sound-along limits (well .network)
 
   late-exactly : (spare B <ℤ pos 0) ↔ ((x : List ℕ) → ¬ (InTime B x))
   late-exactly = paths.late-exactly B (well .network) along some-gate
@@ -123,3 +117,6 @@ module _ {file : List ℕ} {B : Block} (well : WellFormed file B) where
       → Line lent 10 (Shorter lent (increase-bytes * gate-count B)) (SizingLines B lent (GivesLayout B lent)) o
   layout-lines {lent} =
       own-lines (λ (X : Block). Line lent 10 (Shorter lent (increase-bytes * gate-count X)) (SizingLines X lent (GivesLayout X lent))) well
+
+  pub ticks-lines : {wanted : ℕ} {o : Outcome (Unit {0})} → AnswersTicks file wanted o → TicksLines wanted B o
+  ticks-lines {wanted} = own-lines (TicksLines wanted) well

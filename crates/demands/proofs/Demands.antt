@@ -1,45 +1,50 @@
--- The buyer's three demands, as theorems about what the calls promise: `AnswersSlacks`, `AnswersCurve`, `AnswersBest`, `AnswersJudge` and `AnswersLayout` of model say what each call answers and what the lent slices hold afterwards, for any file and any slices, and allow one outcome only (`answers-..-unique` of model); each is the promise of the call of its name. That no call overflows or reads past an end is what the checker asks of every function.
+-- The buyer's three demands, and document 02's requests, as theorems about what the calls promise: `AnswersSlacks`, `AnswersCurve`, `AnswersBest`, `AnswersJudge`, `AnswersTicks` and `AnswersLayout` of model say what each call answers and what the lent slices hold afterwards, for any file and any slices, and allow one outcome only (`answers-..-unique` of model); each is the promise of the call of its name. That no call overflows or reads past an end is what the checker asks of every function.
 -- `WellFormed file B`: the file holds the block B, and none of the refusals 1 to 9 fits it. It and the lengths of the lent slices are all that a theorem asks for.
 -- Assumes nothing.
-use mathlib.Core.Path.{_≡_}
+use mathlib.Core.Path.{_≡_, _∙_, ap}
 use mathlib.Core.Logic.{_↔_, _≢_, _⊎_, inl, inr, ⊎-elim}
 use mathlib.Core.List.{List, [], _∷_, List·Memᴰ}
 use Prim.Native.Nat.{ℕ, _+_, _*_, _≤_, _<_}
+use native.Mathlib.Nat.{add-zero}
 use native.Mathlib.Omega.{arith}
 use lib.IntN.{ℤ, pos, _-ℤ_}
 use lib.ListN.{length, getD, take, drop}
+use Rattle.lists.specs.Sum.{total}
 use Rattle.lists.specs.Over.{build, over}
 use Rattle.lists.specs.Search.{Lowest}
 use Rattle.lists.proofs.Compare.{le-or-lt}
-use Rattle.model.specs.Limits.{max-pairs}
-use Rattle.model.specs.Block.{Block, gate-count, first, last}
+use Rattle.model.specs.Limits.{max-pairs, max-width}
+use Rattle.model.specs.Block.{Block, redated, gate-count, first, last}
 use Rattle.model.specs.Netlist.{Netlist, block-of}
 use Rattle.model.specs.File.{Limited, found, decode, encode}
 use Rattle.model.specs.Path.{Longest}
 use Rattle.model.specs.Gain.{saving}
-use Rattle.model.specs.InTime.{drawn, InTime, IsStart}
+use Rattle.model.specs.InTime.{drawn, Within, AnyTime, InTime, IsStart}
 use Rattle.model.specs.Ties.{Before}
 use Rattle.model.specs.Best.{Best}
+use Rattle.model.specs.Curve.{Pair, count-off, IsCurve}
 use Rattle.model.specs.Part.{Shape, Whole, SeriesParallel, lone, built}
 use Rattle.model.specs.Slack.{source-delay, required-time, slack, start}
+use Rattle.model.specs.Ticks.{Reached, Fewest}
 use Rattle.model.specs.Scale.{FinerTicks}
 use Rattle.model.specs.Remainder.{Moment, ReducedTo, Remains}
 use Rattle.model.specs.Refusal.{SoundNetwork, WellFormed, IllFormed}
 use Rattle.model.specs.Layout.{increase-bytes, list-bytes, GivesLayout, AnswersLayout}
-use Rattle.model.specs.Answer.{Outcome, Slices, accepted, refusal, Line, Judged, ill-formed, well-formed, NotSeriesParallelAt, GivesCurve, GivesBest, AnswersSlacks, AnswersCurve, AnswersBest, AnswersJudge}
+use Rattle.model.specs.Answer.{Outcome, Slices, accepted, refusal, Line, Judged, ill-formed, well-formed, NotSeriesParallelAt, GivesCurve, GivesBest, GivesTicks, fewest, AnswersSlacks, AnswersCurve, AnswersBest, AnswersJudge, AnswersTicks}
 use Rattle.model.proofs.Reading.{read-block-found}
 use Rattle.model.proofs.File.{encode-decodes}
 use Rattle.model.proofs.Editions.{Agree, same-block-read}
 use Rattle.model.proofs.Ties.{before-exactly}
 use Rattle.model.proofs.Slack as paths
-use Rattle.model.proofs.Answer.{ill-unique, eleven-unique}
+use Rattle.model.proofs.Curve.{count-off-whole}
+use Rattle.model.proofs.Ticks.{reached-by-curve, fewest-by-curve, fewest-small, unreached-exactly, ticks-redated}
+use Rattle.model.proofs.Answer.{lowest-unique, ill-unique, eleven-unique}
 use Rattle.optimum.proofs.Scaling.{finer-ticks}
 use Rattle.parts.proofs.Remainder.{same-gates-left}
 use Rattle.parts.proofs.Remains.{some-end, left-exactly}
 use Rattle.shaping.proofs.Facts.{descending}
-use Rattle.demands.proofs.TableLaws.{ill-formed-number, same-outcomes, passed, decided, roomy, answered-at, eleven-line, after-eleven}
-use Rattle.demands.proofs.TableLaws.{twelve-exactly as twelve-line}
-use Rattle.demands.proofs.CallLaws.{both, best-in-front, best-bytes, limits, as-network, some-gate, along, late-or-not, in-time, slacks-lines, curve-lines, best-lines, judge-lines, layout-lines, best-accepts, layout-accepts, curve-accepts}
+use Rattle.demands.proofs.TableLaws.{ill-formed-number, same-outcomes, passed, decided, roomy, answered-at, eleven-line, after-eleven, behind-eleven-exactly}
+use Rattle.demands.proofs.CallLaws.{both, best-in-front, best-bytes, limits, as-network, some-gate, along, late-or-not, in-time, slacks-lines, curve-lines, best-lines, judge-lines, layout-lines, ticks-lines, best-accepts, layout-accepts, curve-accepts, ticks-accepts}
 use Rattle.demands.proofs.Judging.{accepted-in-time, accepted-saves}
 
 -- the block is one gate without a wire
@@ -170,10 +175,10 @@ module _ {file : List ℕ} {B : Block} (well : WellFormed file B) where
 
   -- "Not series-parallel" is returned exactly when the block is no lone gate and no building up gives it; and with which place, "the lowest-numbered gate left other than 0 and n − 1" (document 02, K1), ..
   pub eleven-exactly : {lent : List ℕ} {o : Outcome (List ℕ)} → AnswersBest file lent o → gate-count B ≤ length lent → ElevenExactly B o
-  eleven-exactly a long = eleven-by (after-eleven best-accepts) (roomy long (best-lines well a))
+  eleven-exactly a long = eleven-by (after-eleven (omega arith) best-accepts) (roomy long (best-lines well a))
 
   pub layout-eleven-exactly : {lent : List ℕ} {o : Outcome (List ℕ)} → AnswersLayout file lent o → increase-bytes * gate-count B ≤ length lent → ElevenExactly B o
-  layout-eleven-exactly a long = eleven-by (after-eleven layout-accepts) (roomy long (layout-lines well a))
+  layout-eleven-exactly a long = eleven-by (after-eleven (omega arith) layout-accepts) (roomy long (layout-lines well a))
 
   pub curve-eleven-exactly : {lent : Slices} {o : Outcome Slices} → AnswersCurve file lent o → max-pairs ≤ length (lent .for-widths) → max-pairs ≤ length (lent .for-gains) → ElevenExactly B o
   curve-eleven-exactly a wide long = eleven-by curve-accepts (roomy long (roomy wide (curve-lines well a)))
@@ -181,11 +186,11 @@ module _ {file : List ℕ} {B : Block} (well : WellFormed file B) where
   -- .. and "late" exactly when it is series-parallel and no list is in time.
   pub twelve-exactly : {lent : List ℕ} {o : Outcome (List ℕ)} → AnswersBest file lent o → gate-count B ≤ length lent
       → (o .answer ≡ refusal 12 0) ↔ (SeriesParallel B × ((x : List ℕ) → ¬ (InTime B x)))
-  twelve-exactly a long = both (twelve-line best-accepts (roomy long (best-lines well a))) (late-or-not well)
+  twelve-exactly a long = both (behind-eleven-exactly (omega arith) best-accepts (roomy long (best-lines well a))) (late-or-not well)
 
   pub layout-twelve-exactly : {lent : List ℕ} {o : Outcome (List ℕ)} → AnswersLayout file lent o → increase-bytes * gate-count B ≤ length lent
       → (o .answer ≡ refusal 12 0) ↔ (SeriesParallel B × ((x : List ℕ) → ¬ (InTime B x)))
-  layout-twelve-exactly a long = both (twelve-line layout-accepts (roomy long (layout-lines well a))) (late-or-not well)
+  layout-twelve-exactly a long = both (behind-eleven-exactly (omega arith) layout-accepts (roomy long (layout-lines well a))) (late-or-not well)
 
   -- DOCUMENT 02, K1. "Show that the gates left don't depend on the order": whatever gates are taken away and doubled wires merged, and in whatever order, until neither applies, the same gates are taken away, ..
   pub same-left : (M N : Moment) → ReducedTo B M → ReducedTo B N → (g : ℕ) → List·Memᴰ g (M .taken) ↔ List·Memᴰ g (N .taken)
@@ -198,6 +203,53 @@ module _ {file : List ℕ} {B : Block} (well : WellFormed file B) where
   -- .. and a gate other than 0 and n − 1 is left exactly when "not series-parallel" is true.
   pub left-when-not-built : ((g : ℕ) × Remains B g) ↔ NotBuilt B
   left-when-not-built = both (left-exactly (as-network well)) not-series-parallel
+
+  -- DOCUMENT 02, K6. "The buyer has a saving in mind and wants the fewest spare ticks that reach it": where some number of ticks does, the answer is the fewest. Nothing is asked of the deadline, ..
+  pub ticks-given : {wanted k : ℕ} {o : Outcome (Unit {0})} → AnswersTicks file wanted o → SeriesParallel B → Reached B wanted k
+      → (j : ℕ) × Fewest B wanted j × (o ≡ record { answer = accepted (j ∷ []); memory = tt })
+  ticks-given {k = k} a sp r = as-given (passed (λ p w. w .1 .1 k r) (passed (λ p w. w .0 sp) (ticks-lines well a)))
+    where
+      as-given : {wanted : ℕ} {o : Outcome (Unit {0})} → GivesTicks B wanted o → (j : ℕ) × Fewest B wanted j × (o ≡ record { answer = accepted (j ∷ []); memory = tt })
+      as-given (fewest j fits f e) = (j, f, e)
+
+  -- .. which "plays no part", and neither does the arrival: the file of the same block with others has the same outcome.
+  pub deadline-plays-no-part : {other : List ℕ} {arrival deadline wanted : ℕ} {o : Outcome (Unit {0})} → WellFormed other (redated arrival deadline B) → AnswersTicks file wanted o → AnswersTicks other wanted o
+  deadline-plays-no-part also a = well-formed (redated _ _ B) also (ticks-redated B (ticks-lines well a))
+
+  -- "The saving at start counts, so a wanted saving no larger needs 0 ticks": no larger than some list saves under which no path lasts longer than without increases.
+  pub at-start-needs-none : {wanted : ℕ} {x : List ℕ} {o : Outcome (Unit {0})} → AnswersTicks file wanted o → SeriesParallel B → Within B (start B) x → wanted ≤ saving B x
+      → o ≡ record { answer = accepted (0 ∷ []); memory = tt }
+  at-start-needs-none {wanted} {x} a sp in-start enough =
+      let none : Reached B wanted 0 = record { list = x; within = rw (add-zero (start B)) in-start; saves = enough } in
+      let (j, f, e) = ticks-given a sp none in
+      e ∙ ap (λ (k : ℕ). record { answer = accepted (k ∷ []); memory = tt }) (lowest-unique j 0 f (record { holds = none; none-below = λ q l. absurd (omega arith) }))
+
+  -- "17 .. when even the whole curve stays below the wanted saving", exactly: no list within the widths, however long its paths last, saves as much; ..
+  pub seventeen-exactly : {wanted : ℕ} {o : Outcome (Unit {0})} → AnswersTicks file wanted o
+      → (o .answer ≡ refusal 17 0) ↔ (SeriesParallel B × ((x : List ℕ) → AnyTime B x → saving B x < wanted))
+  seventeen-exactly a =
+      let (there, back) = unreached-exactly (limits well) (well .network) (along well) in
+      both (behind-eleven-exactly (omega arith) ticks-accepts (ticks-lines well a)) (λ w. (w .0, there (w .1)), λ w. (w .0, back (w .1)))
+
+  -- .. and by the curve, as the sentence puts it: its saving at start and the gains of all its ticks are below. The fewest ticks by the curve are the first that come to the wanted saving.
+  pub seventeen-by-curve : {s a wanted : ℕ} {ps : List Pair} {o : Outcome (Unit {0})} → IsCurve B s a ps → AnswersTicks file wanted o
+      → (o .answer ≡ refusal 17 0) ↔ (SeriesParallel B × (a + count-off ps (total (λ (p : Pair). p .width) ps) < wanted))
+  seventeen-by-curve {wanted = wanted} {ps = ps} c answers =
+      both (behind-eleven-exactly (omega arith) ticks-accepts (ticks-lines well answers)) (
+        λ w.
+            (w .0, ⊎-elim (λ h. absurd (w .1 (total (λ (p : Pair). p .width) ps) (reached-by-curve start-is c wanted (total (λ (p : Pair). p .width) ps) .1 h))) (λ l. l) (le-or-lt wanted _)),
+        λ w. (w .0, λ k r. let below = w .1 in omega (arith, reached-by-curve start-is c wanted k .0 r, count-off-whole ps k)),
+      )
+
+  pub ticks-by-curve : {s a : ℕ} {ps : List Pair} → IsCurve B s a ps → (wanted k : ℕ) → Fewest B wanted k ↔ Lowest (λ (j : ℕ). wanted ≤ a + count-off ps j) k
+  ticks-by-curve = fewest-by-curve start-is
+
+  -- A list never needs more ticks than all steps have, so an answer is at most 512 × 4,095 (by named limits).
+  pub ticks-few : {wanted k : ℕ} → Fewest B wanted k → k ≤ max-pairs * max-width
+  ticks-few = fewest-small (limits well) (well .network) (along well)
+
+  pub ticks-eleven-exactly : {wanted : ℕ} {o : Outcome (Unit {0})} → AnswersTicks file wanted o → ElevenExactly B o
+  ticks-eleven-exactly a = eleven-by (after-eleven {k = 17} (omega arith) ticks-accepts) (ticks-lines well a)
 
   -- DOCUMENT 02, K14. "Finer ticks gain nothing": for the block of every well-formed file and any whole m of 1 or more; the scaled block need not fit a file.
   pub finer-ticks-gain-nothing : SeriesParallel B → (m : ℕ) → 1 ≤ m → FinerTicks m B

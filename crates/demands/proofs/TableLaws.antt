@@ -5,16 +5,13 @@ use mathlib.Core.Logic.{_↔_}
 use mathlib.Core.List.{List}
 use Prim.Native.Nat.{ℕ, _≤_, _<_}
 use native.Mathlib.Omega.{arith}
-use lib.IntN.{pos}
-use lib.Signed.{_<ℤ_}
 use lib.ListN.{getD}
 use Rattle.model.specs.Block.{Block}
 use Rattle.model.specs.Part.{SeriesParallel}
-use Rattle.model.specs.Slack.{spare}
 use Rattle.model.specs.Netlist.{block-of}
 use Rattle.model.specs.File.{found, decode, read-block}
 use Rattle.model.specs.Refusal.{WellFormed, IllFormed, unread, loop, ends}
-use Rattle.model.specs.Answer.{Answer, Outcome, refusal, Line, fits, passes, At, Judged, ill-formed, well-formed, NotSeriesParallelAt, LateAt, SizingLines}
+use Rattle.model.specs.Answer.{Answer, Outcome, refusal, Line, fits, passes, At, Judged, ill-formed, well-formed, NotSeriesParallelAt}
 use Rattle.model.proofs.Reading.{made-refused}
 use Rattle.model.proofs.Place.{refused-at-fault, at-fault-number}
 use Rattle.model.proofs.Answer.{not-both, carried, well-not-ill}
@@ -80,14 +77,14 @@ module _ {S : Type 0} {lent : S} {o : Outcome S} where
   eleven-line other (fits p w e) = (λ is. w .0, λ unfit. (p, ap (λ o. o .answer) e))
   eleven-line other (passes n f) = (λ (p, is). absurd (other f .0 (ap (λ (a : Answer). a .number) is)), λ unfit. absurd (unfit (other f .1)))
 
--- what is given is accepted, and of a series-parallel block
-module _ {S : Type 0} {B : Block} {lent : S} {given : Outcome S → Type 0} {o : Outcome S} (accepts : given o → (o .answer .number ≡ 0) × SeriesParallel B) where
-  pub after-eleven : Line lent 12 (LateAt B) given o → (¬ (o .answer .number ≡ 11)) × SeriesParallel B
-  after-eleven (fits p (z, w) e) = (λ q. let twelve = ap (λ o. o .answer .number) e in omega arith, w .0)
+-- A line with the number k behind that of 11, for series-parallel blocks, and then what is given, which is accepted and of such a block: 11 does not come there, and k comes exactly where its line fits.
+module _ {S : Type 0} {B : Block} {lent : S} {given : Outcome S → Type 0} {o : Outcome S} {k : ℕ} {when : Type 0} (later : 11 < k) (accepts : given o → (o .answer .number ≡ 0) × SeriesParallel B) where
+  pub after-eleven : Line lent k (At 0 (SeriesParallel B × when)) given o → (¬ (o .answer .number ≡ 11)) × SeriesParallel B
+  after-eleven (fits p (z, w) e) = (λ q. let is = ap (λ o. o .answer .number) e in omega arith, w .0)
   after-eleven (passes n g) = let (none, sp) = accepts g in (λ q. omega arith, sp)
 
-  pub twelve-exactly : SizingLines B lent given o → (o .answer ≡ refusal 12 0) ↔ (SeriesParallel B × (spare B <ℤ pos 0))
-  twelve-exactly (fits p (none, low) e) = (λ q. absurd (apart (sym (ap (λ o. o .answer) e) ∙ q) (omega arith)), λ w. absurd (none (w .0)))
-  twelve-exactly (passes n (fits p (z, w) e)) = (λ q. w, λ v. ap (λ o. o .answer) e ∙ ap (refusal 12) z)
-  twelve-exactly (passes n (passes m g)) =
+  pub behind-eleven-exactly : Line lent 11 (NotSeriesParallelAt B) (Line lent k (At 0 (SeriesParallel B × when)) given) o → (o .answer ≡ refusal k 0) ↔ (SeriesParallel B × when)
+  behind-eleven-exactly (fits p (none, low) e) = (λ q. absurd (apart (sym (ap (λ o. o .answer) e) ∙ q) (λ same. omega arith)), λ w. absurd (none (w .0)))
+  behind-eleven-exactly (passes n (fits p (z, w) e)) = (λ q. w, λ v. ap (λ o. o .answer) e ∙ ap (refusal k) z)
+  behind-eleven-exactly (passes n (passes m g)) =
       (λ q. let a = ap (λ (a : Answer). a .number) q in let none = accepts g .0 in absurd (omega arith), λ w. absurd (m 0 (refl, w)))

@@ -4,21 +4,19 @@ use mathlib.Core.Path.{_≡_, refl, sym, _∙_, ap, subst}
 use mathlib.Core.Logic.{⊎-elim}
 use mathlib.Core.List.{List, [], _∷_}
 use Prim.Native.Nat.{ℕ, suc, _+_, _*_, _-_, _≤_, _<_}
-use native.Mathlib.Nat.{le-refl}
 use native.Mathlib.Omega.{arith}
 use lib.ListN.{length, getD, take}
 use lib.Seq.{getD-take}
-use Rattle.lists.specs.Sum.{total}
 use Rattle.lists.specs.Search.{Lowest}
 use Rattle.lists.proofs.Compare.{le-or-lt}
-use Rattle.model.specs.Limits.{max-gates, max-width}
-use Rattle.model.specs.Block.{Step, Block, gate, gate-count, first, last, widths}
+use Rattle.model.specs.Limits.{max-gates}
+use Rattle.model.specs.Block.{Block, gate, gate-count, first, last, widths}
 use Rattle.model.specs.Path.{Path, Longest}
 use Rattle.model.specs.Gain.{saving}
 use Rattle.model.specs.InTime.{no-increase, slowed}
 use Rattle.model.specs.Slack.{source-by}
 use Rattle.model.specs.Answer.{refusal, accepted, Exceeds, PathNotInTime, AnswersJudge, well-formed, fits, passes}
-use Rattle.model.proofs.Limited.{StepLimits}
+use Rattle.model.proofs.Limited.{widths-most}
 use Rattle.model.proofs.SameDelays.{source-same}
 use Rattle.model.proofs.Slack.{entered}
 use Rattle.model.proofs.Source.{Entered, source-attained, source-greatest}
@@ -33,17 +31,6 @@ use Rattle.loading.specs.HeldFile.{HeldFile}
 use Rattle.loading.proofs.HeldFile.{too-short}
 use Rattle.judging.specs.Slowed.{Lasting, Lasts}
 use Rattle.holding.proofs.HeldLaws.{block, count, the-limits, the-lent, some, the-along, inputs-are}
-
--- so many steps of at most the greatest width
-widths-most : (ss : List Step) → ((j : ℕ) (d : Step) → j < length ss → StepLimits (getD ss j d)) → widths ss ≤ length ss * max-width
-unfolding total
-widths-most [] each = le-refl 0
-widths-most (s ∷ ss) each =
-    omega (
-      arith,
-      each 0 s (omega arith) .width-most,
-      widths-most ss (λ (j : ℕ) (d : Step) (h : j < length ss). each (suc j) d (omega arith)),
-    )
 
 module _ {file : List ℕ} {n m arrival deadline activity : ℕ} {G : GateArrays} {W : WireArrays} {order : List ℕ} (h : HeldFile file n m arrival deadline activity G W order) where
   abbrev B : Block
@@ -102,8 +89,7 @@ module _ {file : List ℕ} {n m arrival deadline activity : ℕ} {G : GateArrays
               omega (
                 arith,
                 within-widths r l e g b,
-                widths-most (gate B g .steps) (the-limits h .gate-limits g .step-limits),
-                the-limits h .gate-limits g .step-count,
+                widths-most (the-limits h .gate-limits g),
                 delay-most file n m arrival deadline activity G W (h .well .end) (h .well .reads) g b,
               );
         }

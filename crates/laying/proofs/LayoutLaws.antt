@@ -1,7 +1,7 @@
 -- The lines of the layout editor's call, from what loading, the room and the best increases of the block say.
 -- The idea: the lines from 11 on are those of the best increases with other memory, and an accepted list is what stands in front of the call's own list.
 -- Assumes nothing.
-use mathlib.Core.Path.{_≡_, refl, sym, _∙_, ap}
+use mathlib.Core.Path.{_≡_, refl, sym, _∙_, ap, subst}
 use mathlib.Core.List.{List, [], _∷_}
 use Prim.Native.Nat.{ℕ, _*_, _^_, _<_, _≤_}
 use native.Mathlib.Omega.{arith}
@@ -9,7 +9,7 @@ use lib.ListN.{length, getD, take}
 use Rattle.lists.specs.Over.{over}
 use Rattle.lists.proofs.Over.{take-over}
 use Rattle.model.specs.declared.Refusal.{Refusal}
-use Rattle.model.specs.declared.Refusal.the-variants.{Short, Tag, Length, Range, Drops, Wire, Excess, Loop, Ends, Room, NotSeriesParallel, Late, Widths, PathLate}
+use Rattle.model.specs.declared.Refusal.the-variants.{Room}
 use Rattle.model.specs.Limits.{max-gates}
 use Rattle.model.specs.Block.{Block, gate-count}
 use Rattle.model.specs.Gain.{saving}
@@ -23,7 +23,7 @@ use Rattle.blockfile.specs.Held.{GateArrays, WireArrays}
 use Rattle.loading.specs.Loads.{block-held, number-of, place-of}
 use Rattle.loading.specs.HeldFile.{HeldFile}
 use Rattle.loading.proofs.Held.{gates-are}
-use Rattle.loading.proofs.Refused.{refusal-is, passed-on}
+use Rattle.loading.proofs.Refused.{refusal-numbered, refusal-is, passed-on}
 use Rattle.laying.specs.declared.answer.LayoutAnswer.{LayoutAnswer}
 use Rattle.laying.specs.Answered.{refused-as, leaves}
 
@@ -34,20 +34,7 @@ with-memory a after = record { answer = a; memory = after }
 
 -- a refusal's number and place say the refusal
 told : (x : Refusal) → layout-answer (number-of x) (place-of x) 0 ≡ refusal-answer x
-told (Short o) = refl
-told (Tag o) = refl
-told (Length o) = refl
-told (Range o) = refl
-told (Drops o) = refl
-told (Wire o) = refl
-told (Excess o) = refl
-told (Loop g) = refl
-told (Ends g) = refl
-told (Room n) = refl
-told (NotSeriesParallel g) = refl
-told Late = refl
-told (Widths g) = refl
-told PathLate = refl
+told x = let (k, p, e) = refusal-numbered x in subst (λ (a : Answer). layout-answer (a .number) (getD (a .values) 0 0) 0 ≡ a) (sym e) refl
 
 refused-leaves : (x : Refusal) (r : LayoutAnswer) (lent : List ℕ) → r ≡ refused-as (number-of x) (place-of x)
     → leaves r lent ≡ with-memory (refusal-answer x) lent

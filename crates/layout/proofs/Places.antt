@@ -15,28 +15,15 @@ use Rattle.model.specs.Path.{step, on}
 use Rattle.model.specs.File.{found, decode, read-block}
 use Rattle.model.specs.Refusal.{OnLoop, EndFault, into-first, none-in, out-of-last, none-out, IllFormed, unread, loop, ends}
 use Rattle.model.proofs.Reading.{made-refused}
-use Rattle.model.proofs.Limited.{WireLimits, read-limits}
+use Rattle.model.proofs.Limited.{read-limits, wires-join}
 use Rattle.model.proofs.Length.{file-most, fault-early}
 use Rattle.model.proofs.Place.{refused-at-fault}
 use Rattle.loading.specs.Loads.{number-of, place-of}
 
--- a wire within the limits leaves a gate of the block
-leaves-gate : {n a b w : ℕ} (ws : List Wire) → ((i : ℕ) (d : Wire) → i < length ws → WireLimits n (getD ws i d)) → Stands ws a b w → a < n
-leaves-gate {n} {a} {b} {w} ws limits m =
-    let v : Wire = record { source = a; target = b; delay = w } in
-    let r = placed ws v m in
-    subst (λ (u : Wire). u .source < n) (r .2) (limits (r .0) v (r .1) .source-below)
-
 module _ (s : List ℕ) (B : Block) (end : ℕ) (e : read-block s ≡ found B end) where
   loop-gate : (g : ℕ) → OnLoop B g → g < max-gates
-  loop-gate g (step j) =
-      let l = read-limits s e in
-      let h = leaves-gate (B .wires) (l .wire-limits) (j .1) in
-      omega arith
-  loop-gate g (on j r) =
-      let l = read-limits s e in
-      let h = leaves-gate (B .wires) (l .wire-limits) (j .1) in
-      omega arith
+  loop-gate g (step {b = b} j) = let l = read-limits s e in omega (arith, wires-join l g b j .0)
+  loop-gate g (on {c = c} j r) = let l = read-limits s e in omega (arith, wires-join l g c j .0)
 
   end-gate : (g : ℕ) → EndFault B g → g < max-gates
   end-gate g (into-first a h j) = omega arith

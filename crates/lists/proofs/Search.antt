@@ -1,18 +1,21 @@
--- What a test says (`says-by`); the least of several values, found one value after another (`least-of-none`, `least-more`). Assumes nothing.
+-- What a test says (`says-by`); the lowest number of two conditions that say the same (`lowest-alike`); the least of several values, found one value after another (`least-of-none`, `least-more`). Assumes nothing.
 use mathlib.Core.Path.{_≡_, refl, sym, subst}
-use mathlib.Core.Logic.{inl, inr, ⊎-elim}
+use mathlib.Core.Logic.{inl, inr, ⊎-elim, _↔_}
 use mathlib.Core.Bool.{Bool, true, false, cond}
 use Prim.Native.Nat.{ℕ, _+_, _<_, _≤_}
 use native.Mathlib.Decide.{ℕ-discrete}
 use native.Mathlib.Omega.{arith}
 use borrow.Author.Tests.{ltb-true, ltb-false}
 use lib.Dec.{ltb}
-use Rattle.lists.specs.Search.{Least, lesser, Says}
+use Rattle.lists.specs.Search.{Lowest, Least, lesser, Says}
 
 -- what a test's two outcomes say
 pub says-by : (P : Type 0) (b : Bool) → (b ≡ true → P) → (b ≡ false → ¬ P) → Says P b
 says-by P true yes-if no-if = yes-if refl
 says-by P false yes-if no-if = no-if refl
+
+pub lowest-alike : {P Q : ℕ → Type 0} {r : ℕ} → ((k : ℕ) → P k ↔ Q k) → Lowest P r → Lowest Q r
+lowest-alike {r = r} same l = record { holds = same r .0 (l .holds); none-below = λ q b h. l .none-below q b (same q .1 h) }
 
 pub least-of-none : {P : ℕ → Type 0} {f : ℕ → ℕ} (b : ℕ) → Least 0 P f b b
 least-of-none b = record { most = omega arith; none-less = λ i l p. absurd (omega arith); reached = inl refl }

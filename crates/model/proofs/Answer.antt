@@ -13,7 +13,7 @@ use Rattle.model.specs.Block.{Block}
 use Rattle.model.specs.File.{Reading, found, refused}
 use Rattle.model.specs.Refusal.{OnLoop, EndFault, WellFormed, IllFormed, unread, loop, ends}
 use Rattle.model.specs.Layout.{GivesLayout, laid, AnswersLayout}
-use Rattle.model.specs.Answer.{Outcome, Line, fits, passes, At, Judged, ill-formed, well-formed, Gives, NotSeriesParallelAt, Slices, GivesCurve, curve, GivesBest, best, SizingLines, AnswersSlacks, AnswersJudge, AnswersCurve, AnswersBest}
+use Rattle.model.specs.Answer.{Outcome, Line, fits, passes, At, Judged, ill-formed, well-formed, Gives, NotSeriesParallelAt, Slices, GivesCurve, curve, GivesBest, best, SizingLines, GivesTicks, fewest, AnswersSlacks, AnswersJudge, AnswersCurve, AnswersBest, AnswersTicks}
 use Rattle.model.proofs.Best.{best-unique}
 use Rattle.model.proofs.Curve.{curve-unique}
 
@@ -125,3 +125,10 @@ gives-layout-unique {B} o q (laid x sp a e) (laid y sq b f) = let same = best-un
 pub answers-layout-unique : (file lent : List ℕ) → Unique (AnswersLayout file lent)
 answers-layout-unique file lent =
     judged-unique (λ (B : Block). line-unique at-unique (sizing-unique gives-layout-unique))
+
+gives-ticks-unique : {B : Block} {wanted : ℕ} → Unique (GivesTicks B wanted)
+gives-ticks-unique o q (fewest j sp a e) (fewest k sq b f) = let same = lowest-unique j k a b in cc
+
+pub answers-ticks-unique : (file : List ℕ) (wanted : ℕ) → Unique (AnswersTicks file wanted)
+answers-ticks-unique file wanted =
+    judged-unique (λ (B : Block). line-unique eleven-unique (line-unique at-unique gives-ticks-unique))

@@ -4,8 +4,9 @@ use mathlib.Core.Path.{_≡_, refl, sym, _∙_}
 use mathlib.Core.Logic.{_⊎_, inl, inr}
 use mathlib.Core.List.{List, [], _∷_}
 use Prim.Native.Nat.{ℕ, _+_, _*_, _-_, _≤_, _<_, min}
-use native.Mathlib.Nat.{le-antisymm, zero-mul, one-mul, add-mul, add-left-cancel}
+use native.Mathlib.Nat.{le-antisymm, zero-mul, one-mul, add-mul, add-left-cancel, mul-le-mul-right}
 use native.Mathlib.Omega.{arith}
+use Rattle.lists.specs.Sum.{total}
 use Rattle.lists.proofs.Compare.{compared}
 use Rattle.model.specs.Block.{Block}
 use Rattle.model.specs.InTime.{IsStart}
@@ -35,6 +36,22 @@ count-off-beyond p ps k =
     let m : min (p .width + k) (p .width) ≡ p .width = omega arith in
     let d : p .width + k - p .width ≡ k = omega arith in
     rw (m, d) refl
+
+-- more ticks earn no less
+pub count-off-grows : (ps : List Pair) (j k : ℕ) → j ≤ k → count-off ps j ≤ count-off ps k
+unfolding count-off
+count-off-grows [] j k h = omega arith
+count-off-grows (p ∷ ps) j k h =
+    let here : min j (p .width) * p .gain ≤ min k (p .width) * p .gain = mul-le-mul-right (p .gain) (omega arith) in
+    omega (arith, count-off-grows ps (j - p .width) (k - p .width) (omega arith))
+
+-- the ticks of all pairs earn the most
+pub count-off-whole : (ps : List Pair) (k : ℕ) → count-off ps k ≤ count-off ps (total (λ (p : Pair). p .width) ps)
+unfolding count-off total
+count-off-whole [] k = omega arith
+count-off-whole (p ∷ ps) k =
+    let here : min k (p .width) * p .gain ≤ p .width * p .gain = mul-le-mul-right (p .gain) (omega arith) in
+    omega (arith, count-off-whole ps (k - p .width), count-off-beyond p ps (total (λ (q : Pair). q .width) ps))
 
 -- the first tick earns the first gain
 pub count-off-one : (ps : List Pair) → Falling ps → count-off ps 1 ≡ first-gain ps

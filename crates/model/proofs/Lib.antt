@@ -24,3 +24,4 @@ pub mod Limited
 pub mod Encoded
 pub mod Length
 pub mod Editions
+pub mod Ticks

@@ -5,18 +5,20 @@ use mathlib.Core.Logic.{_≢_, ⊎-elim}
 use mathlib.Core.List.{List, [], _∷_, map}
 use mathlib.Core.Bool.{Bool, true, false, cond, not, _&&_}
 use Prim.Native.Nat.{ℕ, zero, suc, _+_, _*_, _-_, _<_, _≤_}
-use native.Mathlib.Nat.{mul-le-mul-right, not-suc-le-zero, le-of-suc-le-suc}
+use native.Mathlib.Nat.{mul-le-mul-right, not-suc-le-zero, le-of-suc-le-suc, le-refl}
 use native.Mathlib.Omega.{arith}
 use lib.Dec.{T, leb, ltb, eqb, leb→le, le→leb, ltb→lt, eqb-refl, T-not}
 use lib.ListN.{length, getD, length-map, List·getD-map}
 use Rattle.lists.proofs.Bool.{and-left, and-right, and-both, is-true}
+use Rattle.lists.specs.Sum.{total}
 use Rattle.lists.proofs.Compare.{le-or-lt}
+use Rattle.lists.proofs.Member.{placed}
 use Rattle.model.proofs.Every.{every-at, every-anywhere, some-passes}
 use Rattle.model.proofs.File.{decoded-is-limited}
 use Rattle.model.proofs.Reading.{made-found}
 use Rattle.model.specs.Limits.{max-edition, max-gates, max-wires, max-steps, max-probability, max-delay, max-wire-delay, max-width, max-drop, max-time, max-activity}
 use Rattle.model.specs.Activity.{activity}
-use Rattle.model.specs.Block.{Step, Gate, Wire, Block, no-gate, gate-count}
+use Rattle.model.specs.Block.{Step, Gate, Wire, Block, no-gate, gate-count, widths, Joined}
 use Rattle.model.specs.Block as Block
 use Rattle.model.specs.Edition.{has-activities, max-switching, activity-of}
 use Rattle.model.specs.Netlist.{DrawnGate, Netlist, gate-of, block-of}
@@ -98,6 +100,21 @@ pub record GateLimits (g : Gate) : Type 0 where
   pub step-count : length (g .steps) ≤ max-steps
   pub step-limits : (j : ℕ) (d : Step) → j < length (g .steps) → StepLimits (getD (g .steps) j d)
   pub drops-fall : (j : ℕ) (d : Step) → suc j < length (g .steps) → getD (g .steps) (suc j) d .drop < getD (g .steps) j d .drop
+
+-- so many steps of at most the greatest width
+widths-at-most : (ss : List Step) → ((j : ℕ) (d : Step) → j < length ss → StepLimits (getD ss j d)) → widths ss ≤ length ss * max-width
+unfolding total
+widths-at-most [] each = le-refl 0
+widths-at-most (s ∷ ss) each =
+    omega (
+      arith,
+      each 0 s (omega arith) .width-most,
+      widths-at-most ss (λ (j : ℕ) (d : Step) (h : j < length ss). each (suc j) d (omega arith)),
+    )
+
+-- how far a gate can be slowed
+pub widths-most : {g : Gate} → GateLimits g → widths (g .steps) ≤ max-steps * max-width
+widths-most {g} l = omega (arith, widths-at-most (g .steps) (l .step-limits), l .step-count)
 
 -- the numbers of a gate field
 pub gate-ranges : (ed : ℕ) (g : DrawnGate) → T (in-range (gate ed) g) → (g .delay ≤ max-delay) × (g .switching ≤ max-switching ed) × T (every step-in-range (g .steps))
@@ -214,6 +231,16 @@ pub record BlockLimits (B : Block) : Type 0 where
   pub wires-most : length (B .wires) ≤ max-wires
   pub wire-limits : (i : ℕ) (d : Wire) → i < length (B .wires) → WireLimits (gate-count B) (getD (B .wires) i d)
   pub no-wire-twice : (i j : ℕ) (d : Wire) → i < j → j < length (B .wires) → getD (B .wires) j d .source ≡ getD (B .wires) i d .source → getD (B .wires) j d .target ≢ getD (B .wires) i d .target
+
+-- a wire joins gates of the block
+pub wires-join : {B : Block} → BlockLimits B → (u v : ℕ) → Joined (B .wires) u v → (u < gate-count B) × (v < gate-count B)
+wires-join {B} limits u v j =
+    let d : Wire = record { source = 0; target = 0; delay = 0 } in
+    let r = placed (B .wires) d (j .1) in
+    let l = limits .wire-limits (r .0) d (r .1) in (
+      subst (λ (w : Wire). w .source < gate-count B) (r .2) (l .source-below),
+      subst (λ (w : Wire). w .target < gate-count B) (r .2) (l .target-below),
+    )
 
 wire-limits-at : {N : Netlist} → Limited N → (i : ℕ) (d : Wire) → i < length (N .wires) → WireLimits (length (N .gates)) (getD (N .wires) i d)
 wire-limits-at {N} l i d h =

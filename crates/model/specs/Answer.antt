@@ -9,11 +9,12 @@ use lib.ListN.{length, getD, take}
 use Rattle.lists.specs.Over.{build, over}
 use Rattle.lists.specs.Search.{Lowest}
 use Rattle.model.specs.declared.Refusal.{Refusal}
-use Rattle.model.specs.declared.Refusal.the-variants.{Short, Tag, Length, Range, Drops, Wire, Excess, Loop, Ends, Room, NotSeriesParallel, Late, Widths, PathLate}
+use Rattle.model.specs.declared.Refusal.the-variants.{Short, Tag, Length, Range, Drops, Wire, Excess, Loop, Ends, Room, NotSeriesParallel, Late, Widths, PathLate, Unreached}
 use Rattle.model.specs.declared.SlacksAnswer as Slacks
 use Rattle.model.specs.declared.CurveAnswer as Curve
 use Rattle.model.specs.declared.BestAnswer as Best
 use Rattle.model.specs.declared.JudgeAnswer as Judge
+use Rattle.model.specs.declared.TicksAnswer as Ticks
 use Rattle.model.specs.Limits.{max-pairs, max-gain}
 use Rattle.model.specs.Block.{Block, gate, gate-count, first, last, widths}
 use Rattle.model.specs.Path.{Path}
@@ -24,6 +25,7 @@ use Rattle.model.specs.Curve.{Pair, IsCurve}
 use Rattle.model.specs.Part.{SeriesParallel}
 use Rattle.model.specs.Remainder.{Remains}
 use Rattle.model.specs.Slack.{slack, spare}
+use Rattle.model.specs.Ticks.{Reached, Fewest}
 use Rattle.model.specs.Refusal.{WellFormed, IllFormed}
 
 -- An answer in document 01's numbers: 0 and the values of an accepted answer, or a refusal's number and its place.
@@ -53,6 +55,7 @@ refusal-answer (NotSeriesParallel g) = refusal 11 g
 refusal-answer Late = refusal 12 0
 refusal-answer (Widths g) = refusal 13 g
 refusal-answer PathLate = refusal 14 0
+refusal-answer Unreached = refusal 17 0
 
 -- slacks: how many were written
 abbrev pub slacks-answer : Slacks.SlacksAnswer → Answer
@@ -73,6 +76,11 @@ best-answer (Best.the-variants.Refused r) = refusal-answer r
 abbrev pub judge-answer : Judge.JudgeAnswer → Answer
 judge-answer (Judge.the-variants.Accepted s) = accepted (s ∷ [])
 judge-answer (Judge.the-variants.Refused r) = refusal-answer r
+
+-- the fewest ticks: how many
+abbrev pub ticks-answer : Ticks.TicksAnswer → Answer
+ticks-answer (Ticks.the-variants.Given k) = accepted (k ∷ [])
+ticks-answer (Ticks.the-variants.Refused r) = refusal-answer r
 
 -- What a call leaves: its answer, and what the memory lent to it holds afterwards.
 pub record Outcome (S : Type 0) : Type 0 where
@@ -186,3 +194,19 @@ BestLines B lent = SizingLines B lent (GivesBest B lent)
 abbrev pub AnswersBest : List ℕ → List ℕ → Outcome (List ℕ) → Type 0
 AnswersBest file lent =
     Judged file lent (λ (B : Block). Line lent 10 (Shorter lent (gate-count B)) (BestLines B lent))
+
+-- the fewest ticks with which the block reaches the wanted saving
+pub data GivesTicks (B : Block) (wanted : ℕ) (o : Outcome (Unit {0})) : Type 0 where
+  fewest : (k : ℕ) → SeriesParallel B → Fewest B wanted k → Gives (k ∷ []) tt o → GivesTicks B wanted o
+
+-- 17: it is series-parallel, and no number of ticks reaches the wanted saving; its place is 0
+abbrev pub UnreachedAt : Block → ℕ → ℕ → Type 0
+UnreachedAt B wanted = At 0 (SeriesParallel B × ((k : ℕ) → ¬ (Reached B wanted k)))
+
+-- the lines of the fewest ticks from 11 on, of a well-formed block
+abbrev pub TicksLines : ℕ → Block → Outcome (Unit {0}) → Type 0
+TicksLines wanted B = Line tt 11 (NotSeriesParallelAt B) (Line tt 17 (UnreachedAt B wanted) (GivesTicks B wanted))
+
+-- The fewest spare ticks for a wanted saving (document 02, K6). "Only the file is lent": there is no memory to speak of, and no 10.
+abbrev pub AnswersTicks : List ℕ → ℕ → Outcome (Unit {0}) → Type 0
+AnswersTicks file wanted = Judged file tt (TicksLines wanted)

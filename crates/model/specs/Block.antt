@@ -30,6 +30,11 @@ pub record Block : Type 0 where
   pub gates : List Gate
   pub wires : List Wire
 
+-- the same block with another arrival and another deadline
+abbrev pub redated : ℕ → ℕ → Block → Block
+redated arrival deadline B =
+    record { arrival = arrival; deadline = deadline; activity = B .activity; gates = B .gates; wires = B .wires }
+
 -- A gate that no number names: it takes no time and has no step.
 abbrev pub no-gate : Gate
 no-gate = record { delay = 0; activity = 0; steps = [] }

@@ -28,6 +28,10 @@ pub record Sizing (B : Block) (ok : ℕ → Type 0) (x : List ℕ) : Type 0 wher
 abbrev pub Within : Block → ℕ → List ℕ → Type 0
 Within B T = Sizing B (λ (t : ℕ). t ≤ T)
 
+-- x is a list within the widths, however long its paths last
+abbrev pub AnyTime : Block → List ℕ → Type 0
+AnyTime B = Sizing B (λ (t : ℕ). Unit {0})
+
 -- x is one of the block's lists in time: a path "is in time if arrival plus that sum is at most the deadline"
 abbrev pub InTime : Block → List ℕ → Type 0
 InTime B = Sizing B (λ (t : ℕ). B .arrival + t ≤ B .deadline)

@@ -11,6 +11,7 @@ pub mod Part
 pub mod Scale
 pub mod Remainder
 pub mod Slack
+pub mod Ticks
 pub mod Field
 pub mod Edition
 pub mod Netlist

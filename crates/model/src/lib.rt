@@ -33,6 +33,8 @@ pub enum Refusal {
     Widths { gate: usize },
     // 14: a path is not in time.
     PathLate,
+    // 17: no number of spare ticks reaches the wanted saving.
+    Unreached,
 }
 
 // The field at an offset of a file.
@@ -70,5 +72,11 @@ pub enum BestAnswer {
 // The verdict on a proposed list.
 pub enum JudgeAnswer {
     Accepted { saving: u64 },
+    Refused(Refusal),
+}
+
+// The fewest spare ticks for a wanted saving.
+pub enum TicksAnswer {
+    Given { ticks: u32 },
     Refused(Refusal),
 }

@@ -11,3 +11,4 @@ pub mod Passing
 pub mod Turns
 pub mod Answers
 pub mod OrderOrLoop
+pub mod Numbered

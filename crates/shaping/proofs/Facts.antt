@@ -14,7 +14,7 @@ use Rattle.model.specs.Limits.{max-activity, max-drop}
 use Rattle.model.specs.Block.{Step, Wire, Block, gate, gate-count, first, last, Joined}
 use Rattle.model.specs.Gain.{drop-of}
 use Rattle.model.specs.Refusal.{SoundNetwork, into-first, out-of-last}
-use Rattle.model.proofs.Limited.{StepLimits, BlockLimits}
+use Rattle.model.proofs.Limited.{StepLimits, BlockLimits, wires-join}
 use Rattle.model.proofs.Slack.{entered, left}
 use Rattle.model.proofs.Turned.{stands-unturned}
 use Rattle.optimum.specs.Gates.{first-drop, Descending}
@@ -75,13 +75,7 @@ module _ (B : Block) (limits : BlockLimits B) where
 
 module _ (B : Block) (limits : BlockLimits B) (sound : SoundNetwork B) where
   pub join : WiresJoinGates B
-  join u v j =
-      let d : Wire = record { source = 0; target = 0; delay = 0 } in
-      let r = placed (B .wires) d (j .1) in
-      let l = limits .wire-limits (r .0) d (r .1) in (
-        subst (λ (w : Wire). w .source < gate-count B) (r .2) (l .source-below),
-        subst (λ (w : Wire). w .target < gate-count B) (r .2) (l .target-below),
-      )
+  join = wires-join limits
 
   pub no-wire-twice : NoneTwice (B .wires)
   no-wire-twice = none-twice (B .wires) (limits .no-wire-twice)

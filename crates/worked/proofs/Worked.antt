@@ -3,8 +3,8 @@
 -- Assumes nothing.
 use mathlib.Core.Path.{sym, subst}
 use mathlib.Core.List.{List, [], _∷_}
-use Rattle.model.proofs.Answer.{Unique, answers-slacks-unique, answers-judge-unique, answers-curve-unique, answers-best-unique}
-use Rattle.worked.specs.Call.{Call, find-slacks, judge-list, find-curve, find-best, Allows, Row, Holds, Every}
+use Rattle.model.proofs.Answer.{Unique, answers-slacks-unique, answers-judge-unique, answers-curve-unique, answers-best-unique, answers-ticks-unique}
+use Rattle.worked.specs.Call.{Call, find-slacks, judge-list, find-curve, find-best, find-ticks, Allows, Row, Holds, Every}
 use Rattle.worked.specs.Table.{table}
 use Rattle.worked.proofs.Sound.{sound}
 use Rattle.worked.proofs.Computes.{Computes, rows-compute}
@@ -14,6 +14,7 @@ unique (find-slacks file lent) = answers-slacks-unique file lent
 unique (judge-list file lent) = answers-judge-unique file lent
 unique (find-curve file lent) = answers-curve-unique file lent
 unique (find-best file lent) = answers-best-unique file lent
+unique (find-ticks file wanted) = answers-ticks-unique file wanted
 
 -- a row that computes holds
 holds : (r : Row) → Computes r → Holds r

@@ -4,15 +4,16 @@ use mathlib.Core.Bool.{Bool, true, cond}
 use mathlib.Core.Option.{Option, none, some}
 use mathlib.Core.List.{List, [], _∷_, map}
 use Prim.Native.Nat.{ℕ, zero, suc, _+_, _-_}
-use lib.Dec.{ltb, eqb}
+use lib.Dec.{leb, ltb, eqb}
 use lib.IntN.{ℤ}
 use lib.ListN.{length, getD, take}
+use Rattle.lists.specs.Sum.{total}
 use Rattle.lists.specs.Over.{build, over}
 use Rattle.model.specs.Limits.{max-pairs}
 use Rattle.model.specs.Block.{Block, gate, gate-count, last, widths}
 use Rattle.model.specs.Gain.{saving}
 use Rattle.model.specs.InTime.{slowed}
-use Rattle.model.specs.Curve.{Pair}
+use Rattle.model.specs.Curve.{Pair, count-off}
 use Rattle.model.specs.Slack.{source-by, slack, start}
 use Rattle.model.specs.File.{Reading, found, refused, read-block}
 use Rattle.model.specs.Answer.{Outcome, refusal, accepted, Slices}
@@ -21,7 +22,7 @@ use Rattle.optimum.specs.BlockTree.{whole-tree, lone-tree, start-of, increases,
 use Rattle.parts.specs.Slots.{slots}
 use Rattle.parts.specs.Reduce.{sole, remainder, gate-left}
 use Rattle.parts.specs.Ascending.{ascending}
-use Rattle.worked.specs.Call.{Call, find-slacks, judge-list, find-curve, find-best, Memory}
+use Rattle.worked.specs.Call.{Call, find-slacks, judge-list, find-curve, find-best, find-ticks, Memory}
 
 -- refusal k with place p, and the memory unchanged
 abbrev pub refuses : {S : Type 0} → ℕ → ℕ → S → Outcome S
@@ -102,6 +103,23 @@ abbrev pub best-of : Block → List ℕ → Outcome (List ℕ)
 best-of B lent =
     cond (ltb (length lent) (gate-count B)) (refuses 10 (gate-count B) lent) (best-by B lent (tree B))
 
+-- k ticks counted off the curve of the block's tree come to the wanted saving
+abbrev pub reaches : Block → Tree → ℕ → ℕ → Bool
+reaches B t wanted k = leb wanted (saving B (increases B t 0) + count-off (pairs-of B t) k)
+
+-- the ticks of all pairs of that curve
+abbrev pub all-ticks : Block → Tree → ℕ
+all-ticks B t = total (λ (p : Pair). p .width) (pairs-of B t)
+
+-- the fewest ticks, once it is known which come to the wanted saving first
+abbrev pub ticks-found : Option ℕ → Outcome (Unit {0})
+ticks-found none = refuses 17 0 tt
+ticks-found (some k) = gives (k ∷ []) tt
+
+abbrev pub ticks-by : Block → ℕ → Option Tree → Outcome (Unit {0})
+ticks-by B wanted none = refuses 11 (gate-left B) tt
+ticks-by B wanted (some t) = ticks-found (lowest (reaches B t wanted) (suc (all-ticks B t)))
+
 -- the outcome by what reading finds
 abbrev pub by-reading : {S : Type 0} → Reading Block → S → (Block → S → Outcome S) → Outcome S
 by-reading (found B o) lent further = further B lent
@@ -113,6 +131,7 @@ computed (find-slacks file lent) = by-reading (read-block file) lent slacks-of
 computed (judge-list file lent) = by-reading (read-block file) lent judge-of
 computed (find-curve file lent) = by-reading (read-block file) lent curve-of
 computed (find-best file lent) = by-reading (read-block file) lent best-of
+computed (find-ticks file wanted) = by-reading (read-block file) tt (λ B lent. ticks-by B wanted (tree B))
 
 -- the file cannot be read, or the wires of its block rise
 abbrev pub rises : Reading Block → Bool

@@ -1,15 +1,15 @@
--- The cases of document 01, "Blocks tried by hand", that are marked P, as rows of one table in the document's order; behind them D with wires that take time (document 02, K2) and blocks with measured activities (K3), worked out by hand.
+-- The cases of document 01, "Blocks tried by hand", that are marked P, as rows of one table in the document's order; behind them D with wires that take time (document 02, K2) blocks with measured activities (K3) and the fewest ticks for a wanted saving (K6), worked out by hand.
 -- Every p is 128, but in the blocks of K3; arrival is 0. Where the document leaves them free, chosen here: delay 1 for the gates of the bridge, the triangle and 001's chain, no steps for those of the bridge and the triangle; deadline 9 for these and for 001's parallel gates (in a curve it plays no part).
 -- Lent slices are filled with 9 and, but for the empty file, one element longer than needed: a row shows that what lies beyond is unchanged.
 use mathlib.Core.List.{List, [], _∷_, _++_}
-use Prim.Native.Nat.{ℕ, _*_}
+use Prim.Native.Nat.{ℕ, _+_, _*_}
 use lib.IntN.{pos}
 use lib.ListN.{replicate}
 use Rattle.model.specs.Block.{Step, Wire}
 use Rattle.model.specs.Netlist.{DrawnGate, Netlist}
 use Rattle.model.specs.File.{encode}
 use Rattle.model.specs.Answer.{Slices}
-use Rattle.worked.specs.Call.{find-slacks, judge-list, find-curve, find-best, Row}
+use Rattle.worked.specs.Call.{find-slacks, judge-list, find-curve, find-best, find-ticks, Row}
 use Rattle.worked.specs.Computed.{refuses, gives}
 
 -- a wire's activity, "U = 32,768"
@@ -189,4 +189,23 @@ table =
     -- K3: 257 is an activity, and no probability
     ∷ record { call = find-best (diamond-in 3 257 10) (nines 5); expected = gives (44 * 257 ∷ 4 ∷ []) (0 ∷ 0 ∷ 2 ∷ 3 ∷ 9 ∷ []) }
     ∷ record { call = find-best (diamond-in 2 257 10) (nines 5); expected = refuses 4 0 (nines 5) }
+    -- K6: the best savings of D with 0, 1, 2, .. spare ticks are 8, 20, 32, 44, 56, 68, 77, 86, 88, 90 and 92 U. "The saving at start counts, so a wanted saving no larger needs 0 ticks"
+    ∷ record { call = find-ticks (diamond 10) 0; expected = gives (0 ∷ []) tt }
+    ∷ record { call = find-ticks (diamond 10) (8 * U); expected = gives (0 ∷ []) tt }
+    ∷ record { call = find-ticks (diamond 10) (8 * U + 1); expected = gives (1 ∷ []) tt }
+    ∷ record { call = find-ticks (diamond 10) (44 * U); expected = gives (3 ∷ []) tt }
+    ∷ record { call = find-ticks (diamond 10) (44 * U + 1); expected = gives (4 ∷ []) tt }
+    ∷ record { call = find-ticks (diamond 10) (68 * U + 1); expected = gives (6 ∷ []) tt }
+    ∷ record { call = find-ticks (diamond 10) (92 * U); expected = gives (10 ∷ []) tt }
+    -- "17, place 0, when even the whole curve stays below the wanted saving", up to the largest 64-bit number
+    ∷ record { call = find-ticks (diamond 10) (92 * U + 1); expected = refuses 17 0 tt }
+    ∷ record { call = find-ticks (diamond 10) 18446744073709551615; expected = refuses 17 0 tt }
+    -- K6, "the block's own deadline plays no part": with 6, where D is late, and with 0
+    ∷ record { call = find-ticks (diamond 6) (44 * U + 1); expected = gives (4 ∷ []) tt }
+    ∷ record { call = find-ticks (diamond 0) (92 * U + 1); expected = refuses 17 0 tt }
+    -- K6: a block without a step saves nothing; 11 and what every call has in common come first, also where nothing is wanted
+    ∷ record { call = find-ticks triangle 0; expected = gives (0 ∷ []) tt }
+    ∷ record { call = find-ticks triangle 1; expected = refuses 17 0 tt }
+    ∷ record { call = find-ticks bridge 0; expected = refuses 11 1 tt }
+    ∷ record { call = find-ticks [] 0; expected = refuses 1 0 tt }
     ∷ []

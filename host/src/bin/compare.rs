@@ -7,9 +7,8 @@ mod ffi;
 mod pages;
 
 use pages::Pages;
-use reference::compare::{compare, elevens, Answer};
+use reference::compare::{compare, elevens, files_and_seeds, Answer};
 use std::process::exit;
-use std::time::SystemTime;
 
 /// The call, with file and slice moved to the ends of their pages.
 fn call(file_pages: &mut Pages, slice_pages: &mut Pages, file: &[u8], lent: &mut [u8]) -> Answer {
@@ -50,12 +49,6 @@ fn run(files: usize, seed: u64) {
 }
 
 fn main() {
-    let numbers: Vec<u64> = std::env::args().skip(1).map_while(|word| word.parse().ok()).collect();
-    let files = *numbers.first().unwrap_or(&3_000) as usize;
-    if let Some(&seed) = numbers.get(1) {
-        return run(files, seed);
-    }
-    run(files, 1);
-    let now = SystemTime::now().duration_since(SystemTime::UNIX_EPOCH).map_or(0, |d| d.as_secs());
-    run(files, now);
+    let (files, seeds) = files_and_seeds();
+    seeds.into_iter().for_each(|seed| run(files, seed));
 }

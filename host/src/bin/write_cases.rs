@@ -2,7 +2,7 @@
 //! write-cases --resize DIR: writes those of the program `resize`, which reads the longest block file.
 //! write-cases --check [--resize] DIR: says whether they still are what it would write.
 
-use reference::cases::{all, places_of_11, search_agrees, written};
+use reference::cases::{all, places_of_11, search_agrees, ticks_and_17, written};
 use reference::compare::elevens;
 use reference::generate::limits::largest_file;
 use reference::printout::printout;
@@ -30,7 +30,8 @@ fn stored_cases() -> (Vec<u8>, String, String) {
     let tied = cases.iter().filter(|case| case.has_ties()).count();
     let elevens = elevens(&places_of_11(&output));
     let searched = format!("cases: {} blocks, {searched} of them also by exhaustive search", cases.len());
-    let said = format!("{searched}; {elevens}; {tied} with ties");
+    let (given, too_much) = ticks_and_17(&output);
+    let said = format!("{searched}; {elevens}; {tied} with ties; {given} fewest ticks given, {too_much} times 17");
     (input, output, said)
 }
 

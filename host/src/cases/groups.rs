@@ -1,13 +1,15 @@
 //! Which cases are stored, group after group.
 
+use super::ticks::MOST_WANTED;
 use super::{Case, MOST_LISTS, MOST_WIRES};
-use crate::block::{encode, Block, MAX_WIRES};
+use crate::block::{encode, Block, MAX_GATES, MAX_WIDTH, MAX_WIRES};
 use crate::boundaries::{self, Boundary};
 use crate::edition::MAX_EDITION;
 use crate::finer::scaled;
 use crate::generate::editions::{in_edition_3, set_activities, with_activities, with_wire_delays};
 use crate::generate::editions::{WireDelays, ALL_ACTIVITIES, ALL_WIRE_DELAYS};
 use crate::generate::finer::{block_to_scale, small_block_to_scale, FACTORS};
+use crate::generate::ticks::{scattered, uneven_block};
 use crate::generate::ties::{has_ties, tied_block};
 use crate::generate::{self, any_block, bridged_block, Values, Wires, ALL_VALUES};
 use crate::random::Random;
@@ -24,6 +26,8 @@ const TIED: usize = 100;
 /// Random blocks that are stored once more in finer ticks, of each edition, and the most lists of the middle ones in these.
 const SCALED: usize = 70;
 const MIDDLE_LISTS: u64 = 500_000;
+/// Random blocks with uneven gains of each edition.
+const UNEVEN: usize = 20;
 
 /// A case of each file, with one gate after another as the one whose width is passed.
 fn of_files(files: impl Iterator<Item = Vec<u8>>) -> impl Iterator<Item = Case> {
@@ -255,7 +259,47 @@ fn finer() -> Vec<Case> {
             let (block, m) = block_with_factor(random, edition, round);
             let finer = scaled(&block, m).expect("a block that fits a file");
             cases.push(Case::of(encode(&block), round));
-            cases.push(Case { finer: Some(m), ..Case::of(encode(&finer), round) });
+            cases.push(Case::in_finer_ticks(encode(&finer), round, m));
+        }
+    }
+    cases
+}
+
+/// A block in an edition with uneven gains. Two of five are so small that the second opinion tries every list, one that the
+/// exhaustive search does, and two have 12 to 64 gates, one of them steps of up to 4,095 ticks.
+fn block_with_uneven_gains(random: &mut Random, edition: u8, round: usize) -> Block {
+    let (least_gates, most_gates, widest, lists, most_wires) = match round % 5 {
+        0 | 1 => (2, 5, 4, 3..=FEW_LISTS, FEW_WIRES),
+        2 => (2, 8, 9, FEW_LISTS + 1..=MIDDLE_LISTS, MOST_WIRES),
+        3 => (12, MAX_GATES, 20, 3..=u64::MAX, MAX_WIRES),
+        _ => (12, MAX_GATES, MAX_WIDTH, 3..=u64::MAX, MAX_WIRES),
+    };
+    loop {
+        let gates = least_gates + random.below(most_gates - least_gates + 1);
+        let block = uneven_block(random, edition, gates, widest);
+        if lists.contains(&search::count_of_lists(&block)) && block.wires.len() <= most_wires {
+            return block;
+        }
+    }
+}
+
+/// The cases that came with the fewest ticks (document 02, K6): blocks worked out by hand, D with nothing and with one saving
+/// wanted, and random series-parallel blocks in every edition, with wanted savings that need anything from one tick to all, all
+/// that can be saved, and one more.
+fn fewest_ticks() -> Vec<Case> {
+    let random = &mut Random::from_seed(8_017);
+    let mut cases: Vec<Case> = of_worked(worked::ticks::all()).collect();
+    for wanted in [vec![], vec![44 * worked::U + 1]] {
+        cases.push(Case { wanted, ..Case::of(encode(&worked::diamond(10)), 1) });
+    }
+    for round in 0..UNEVEN {
+        for edition in 1..=MAX_EDITION {
+            let block = block_with_uneven_gains(random, edition, round);
+            let curve = exact::curve(&block);
+            let whole = curve.counted_off(curve.ticks());
+            let mut wanted = scattered(random, &curve, MOST_WANTED - 2);
+            wanted.extend([whole, whole + 1]);
+            cases.push(Case { wanted, ..Case::of(encode(&block), round) });
         }
     }
     cases
@@ -276,5 +320,6 @@ pub fn all() -> Vec<Case> {
     cases.extend(edition_3());
     cases.extend(ties());
     cases.extend(finer());
+    cases.extend(fewest_ticks());
     cases
 }

@@ -39,6 +39,18 @@ pub fn most_pairs() -> Block {
     block
 }
 
+/// A chain of 64 gates without delay, each with 8 steps of width 4,095 and the drops 8 to 1: the most ticks that a curve can have,
+/// far more than a deadline can leave.
+pub fn most_ticks() -> Block {
+    let wires = (1..64).map(|gate| Wire::without_delay(gate - 1, gate)).collect();
+    let mut block = bare_block(64, wires);
+    for gate in &mut block.gates {
+        gate.steps = (0..MAX_STEPS as u32).map(|i| Step { width: MAX_WIDTH, drop: 8 - i }).collect();
+    }
+    block.deadline = MAX_TIME;
+    block
+}
+
 /// 64 gates, 256 wires, no loop, ends right; not series-parallel.
 pub fn most_wires() -> Block {
     let mut wires = Vec::new();

@@ -28,6 +28,9 @@ fn diamonds() -> Vec<Worked> {
                 NotJudged(&[0, 0, 20, 31], 14, 0),
                 NotJudged(&[0, 0, 21, 30], 14, 0),
                 NotJudged(&[0, 51, 0, 0], 13, 1),
+                // ten times the savings that D reaches with 0, 3 and 10 ticks
+                Ticks(&[(80 * U, 0), (80 * U + 1, 1), (440 * U, 30), (440 * U + 1, 31), (920 * U, 100)]),
+                NoTicks(920 * U + 1, 17, 0),
                 Printed(printed),
             ],
         ),

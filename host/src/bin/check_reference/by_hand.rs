@@ -1,8 +1,9 @@
 //! Answers that were worked out by hand: document 01's, those of blocks with wire delays, with measured activities, with ties and
-//! in finer ticks, and those at the boundaries of the refusals.
+//! in finer ticks, the fewest ticks for wanted savings, and those at the boundaries of the refusals.
 
 use reference::answers;
 use reference::block::{decode, encode, Refusal, MAX_GATES};
+use reference::boundaries::ticks::Wanted;
 use reference::boundaries::{self, Boundary};
 use reference::generate::limits;
 use reference::search::Best;
@@ -27,6 +28,16 @@ fn is_best(file: &[u8], best: &Best) -> bool {
         && (search::count_of_lists(&block) > MOST_LISTS || search::best(&block).as_ref() == Some(best))
 }
 
+/// Whether these are the fewest ticks for the wanted saving, or `None` where no number of ticks reaches it: by flows and, where
+/// there are not too many lists, by trying every one.
+fn are_fewest(file: &[u8], wanted: u64, ticks: Option<u64>) -> bool {
+    let block = decode(file).expect("a block");
+    let answer = answers::fewest_ticks(file, wanted);
+    let refused = if ticks.is_none() { Some((17, 0)) } else { None };
+    (answer.ok(), refusal(answer)) == (ticks, refused)
+        && (search::count_of_lists(&block) > MOST_LISTS || search::fewest_ticks(&block, wanted) == ticks)
+}
+
 /// Whether a worked block gets the answer that was worked out.
 fn holds(file: &[u8], expected: &Expected) -> bool {
     let curve = || answers::curve(file, 512, 512).expect("a curve");
@@ -43,6 +54,11 @@ fn holds(file: &[u8], expected: &Expected) -> bool {
         }
         Expected::Judged(list, saving) => answers::judge(file, list) == Ok(*saving),
         Expected::NotJudged(list, number, place) => refusal(answers::judge(file, list)) == Some((*number, *place)),
+        Expected::Ticks(all) => all.iter().all(|&(wanted, ticks)| are_fewest(file, wanted, Some(ticks))),
+        Expected::NoTicks(wanted, 17, 0) => are_fewest(file, *wanted, None),
+        Expected::NoTicks(wanted, number, place) => {
+            refusal(answers::fewest_ticks(file, *wanted)) == Some((*number, *place))
+        }
         Expected::SeriesParallel => {
             let block = answers::well_formed(file).expect("a block");
             parts::built_up(&block) && parts::reduces(&block)
@@ -62,14 +78,21 @@ pub fn check_worked() -> usize {
     count
 }
 
-/// Every boundary gets the refusal written beside it: from the reference's calls (the curve has no 12), in the printout, and
-/// from list merging.
+/// Every boundary gets the refusal written beside it: from the reference's calls (the curve and the fewest ticks have no 12, and
+/// these 17 in its place and for every block that is sized, where too much is wanted), in the printout, and from list merging.
 pub fn check_boundaries() -> usize {
     let all = boundaries::all();
     for Boundary { name, file, refused } in &all {
+        let of_curve = refused.filter(|r| r.0 != 12);
         assert_eq!(refusal(answers::best_increases(file, MAX_GATES)), *refused, "{name}");
         assert_eq!(refusal(answers::layout_call(file, 4 * MAX_GATES)), *refused, "{name}, layout call");
-        assert_eq!(refusal(answers::curve(file, 512, 512)), refused.filter(|r| r.0 != 12), "{name}, curve");
+        assert_eq!(refusal(answers::curve(file, 512, 512)), of_curve, "{name}, curve");
+        assert_eq!(refusal(answers::fewest_ticks(file, 0)), of_curve, "{name}, nothing wanted");
+        assert_eq!(
+            refusal(answers::fewest_ticks(file, u64::MAX)),
+            of_curve.or(Some((17, 0))),
+            "{name}, too much wanted"
+        );
         assert_eq!(refusal(merging::best_increases(file, &mut [0; MAX_GATES])), *refused, "{name}, by merging");
         let printed = printout::printout(file);
         let line = refused.map(|(number, place)| format!("refused {number} {place}\n"));
@@ -81,8 +104,20 @@ pub fn check_boundaries() -> usize {
     all.len()
 }
 
-/// The limits of a curve are reached: 512 pairs, and a gain of 63 x 32,768 x 1,000 up to edition 2, of 63 x 65,535 x 1,000,
-/// which 32 bits hold, in edition 3.
+/// The same of 17, and of what comes before it.
+pub fn check_wanted() -> usize {
+    let all = boundaries::ticks::all();
+    for Wanted { name, file, wanted, refused } in &all {
+        assert_eq!(refusal(answers::fewest_ticks(file, *wanted)), *refused, "{name}, {wanted} wanted");
+    }
+    for number in [1, 2, 3, 4, 5, 6, 7, 8, 9, 11, 17] {
+        assert!(all.iter().any(|b| b.refused.is_some_and(|r| r.0 == number)), "no boundary of {number}");
+    }
+    all.len()
+}
+
+/// The limits of a curve are reached: 512 pairs, 64 x 8 x 4,095 ticks, and a gain of 63 x 32,768 x 1,000 up to edition 2, of
+/// 63 x 65,535 x 1,000, which 32 bits hold, in edition 3.
 pub fn check_limits() {
     let pairs = exact::curve(&limits::most_pairs()).pairs;
     assert_eq!(pairs.len(), 512);
@@ -91,6 +126,7 @@ pub fn check_limits() {
     let pairs = exact::curve(&limits::largest_measured_gain()).pairs;
     assert_eq!(pairs, [(2, 4_128_705_000)]);
     assert!(pairs[0].1 == 63 * 65_535 * 1_000 && u32::try_from(pairs[0].1).is_ok());
+    assert_eq!(exact::curve(&limits::most_ticks()).ticks(), 64 * 8 * 4_095);
 }
 
 /// 001's chain with 12, 26 and 27 ticks to spare: ticks beyond the curve's end earn 0.

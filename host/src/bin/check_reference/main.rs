@@ -4,6 +4,7 @@ mod by_hand;
 mod finer;
 mod networks;
 mod sizing;
+mod ticks;
 
 use reference::edition::MAX_EDITION;
 use reference::random::Random;
@@ -12,6 +13,7 @@ fn main() {
     let random = &mut Random::from_seed(1);
     println!("worked cases: {} answers", by_hand::check_worked());
     println!("boundaries of every refusal: {} files", by_hand::check_boundaries());
+    println!("boundaries of 17: {} wanted savings", by_hand::check_wanted());
     by_hand::check_limits();
     by_hand::check_counted_off();
     println!("short slices: {} answers", by_hand::check_room());
@@ -40,6 +42,8 @@ fn main() {
     println!("order of ties against list merging: {blocks} blocks, {counted}, {gates} gates");
     println!("curves against best lists: {} blocks", sizing::check_curve(random));
     println!("damaged files: {} read", sizing::check_damage(random));
+    println!("fewest ticks against every list: {}", ticks::check_small(&mut Random::from_seed(6)));
+    println!("fewest ticks against best lists: {}", ticks::check_large(&mut Random::from_seed(7)));
     println!("finer ticks against every list: {}", finer::check_small(random));
     println!("finer ticks by flows: {}", finer::check_large(random));
 }

@@ -1,0 +1,50 @@
+// The fewest ticks, counted off the front of a curve, that reach a wanted saving.
+ghost use Prim.Native.Nat.{ℕ, _*_, _≤_};
+ghost use Rattle.lists.specs.Search.{Lowest};
+ghost use Rattle.model.specs.Limits.{max-pairs};
+ghost use Rattle.curve.specs.Position.{pairs-in};
+ghost use Rattle.curve.specs.Reach.{Reaches};
+use crate::number::element;
+use crate::position::Position;
+
+// How a wanted saving is reached.
+pub enum Reach {
+    // With so many ticks, and with no fewer.
+    Ticks(u64),
+    // With no number of ticks: the whole curve stays below it.
+    Beyond,
+}
+
+// The fewest ticks of one gain that earn `need`.
+fn ticks_of(gain: u32, need: u64) -> u64
+    requires { ⌜ (1 ≤ gain) × (1 ≤ need) ⌝ }
+    ensures { λ r. ⌜ Lowest (λ (k : ℕ). need ≤ k * gain) r ⌝ }
+{
+    (need - 1) / (gain as u64) + 1
+}
+
+// The fewest ticks with which the saving at start and what the ticks earn, counted off the front of the curve of `pairs` pairs, come to the wanted saving.
+// Public for the calls: they have a curve, which has at most as many pairs.
+pub fn ticks_for(widths: &[u32], gains: &[u32], pairs: usize, at_start: u64, wanted: u64) -> Reach
+    requires { ⌜ pairs ≤ max-pairs ⌝ }
+    ensures { λ r. ⌜ Reaches (pairs-in pairs (now (widths .entry)) (now (gains .entry))) «at_start» wanted r ⌝ }
+{
+    if wanted <= at_start {
+        return Reach::Ticks(0);
+    }
+    let mut next = Position::front();
+    let mut ticks: u64 = 0;
+    let mut need = wanted - at_start;
+    while next.pair < pairs {
+        let pair = next.pair;
+        let rest = next.rest(widths, gains, pairs);
+        if need <= rest.gain {
+            let reached = ticks + ticks_of(element(gains, pair), need);
+            return Reach::Ticks(reached);
+        }
+        need -= rest.gain;
+        ticks += rest.ticks as u64;
+        next = rest.next;
+    }
+    Reach::Beyond
+}

@@ -1,0 +1,64 @@
+"""The fewest ticks for a wanted saving (document 02, K6), counted off a curve, and as words."""
+
+from bisect import bisect_left
+from typing import NamedTuple
+
+# no number of ticks reaches what is wanted
+BEYOND = "17:0"
+
+
+def counted_off(at_start, pairs, spare):
+    """What a curve says is the best saving at a spare; its widths and gains stand in turn."""
+    total = at_start
+    for width, gain in zip(pairs[0::2], pairs[1::2]):
+        total += min(width, spare) * gain
+        spare -= min(width, spare)
+    return total
+
+
+def fewest_on(at_start, pairs, wanted):
+    """The first number of ticks at which a curve says the wanted saving or more, by bisection; None if it says so nowhere."""
+    every = sum(pairs[0::2])
+    ticks = bisect_left(range(every + 1), wanted, key=lambda spare: counted_off(at_start, pairs, spare))
+    return None if ticks > every else ticks
+
+
+def ticks_word(ticks):
+    """An answer in its line: the ticks, or 17 in place of None; a word stays."""
+    return BEYOND if ticks is None else str(ticks)
+
+
+class Asked(NamedTuple):
+    """A wanted saving of a block that gets its curve: the curve's saving at start and pairs, the fewest ticks, None for 17, and
+    the block's own spare, which plays no part. The methods but the first are mistakes."""
+
+    at_start: int
+    pairs: list
+    wanted: int
+    ticks: int
+    spare: int
+
+    def earned(self):
+        """What the ticks earn, where they are given."""
+        return counted_off(self.at_start, self.pairs, self.ticks)
+
+    def without_start(self):
+        return fewest_on(0, self.pairs, self.wanted)
+
+    def without_last_pair(self):
+        return fewest_on(self.at_start, self.pairs[:-2], self.wanted)
+
+    def more_than_wanted(self):
+        return fewest_on(self.at_start, self.pairs, self.wanted + 1)
+
+    def rounded_down(self):
+        """One less where the ticks earn more than what is wanted."""
+        return self.ticks - 1 if self.ticks and self.earned() > self.wanted else self.ticks
+
+    def end_of_pair(self):
+        """The end of the pair in which the ticks end."""
+        ends = [sum(self.pairs[0:at:2]) for at in range(0, len(self.pairs) + 1, 2)]
+        return None if self.ticks is None else min(end for end in ends if end >= self.ticks)
+
+    def within_spare(self):
+        return None if self.ticks is None or self.ticks > self.spare else self.ticks

@@ -1,0 +1,36 @@
+//! benchmark-ticks: the library's fewest ticks for a wanted saving (document 02, K6) against its curve, on the same blocks in the
+//! same run. Wanted is all that the curve earns, so that every pair of it is passed. Each time is the least of several rounds.
+
+#[path = "../probes.rs"]
+mod probes;
+
+use reference::answers::{self, MAX_PAIRS};
+use reference::measure::{cells, least_times, print_cells, print_ratios, Times};
+use std::hint::black_box;
+
+/// All that a block can save, and the ticks that it needs.
+fn whole(file: &[u8]) -> (u64, u64) {
+    let curve = answers::curve(file, MAX_PAIRS, MAX_PAIRS).expect("a series-parallel block");
+    (curve.counted_off(curve.ticks()), curve.ticks())
+}
+
+/// The curve, and the fewest ticks measured against it.
+fn measure(files: &[Vec<u8>]) -> Times {
+    let (mut widths, mut gains) = ([0; MAX_PAIRS], [0; MAX_PAIRS]);
+    let wanted: Vec<(&[u8], u64)> = files.iter().map(|file| (&file[..], whole(file).0)).collect();
+    for (file, wanted) in &wanted {
+        assert_eq!(u64::from(probes::fewest_ticks(file, *wanted).ticks), whole(file).1);
+    }
+    least_times(
+        &wanted,
+        |(file, _)| assert_eq!(black_box(probes::curve(file, &mut widths, &mut gains)).number, 0),
+        |(file, wanted)| assert_eq!(black_box(probes::fewest_ticks(file, *wanted)).number, 0),
+    )
+}
+
+fn main() {
+    println!("ratio = fewest ticks / curve, microseconds a call: above 1 the fewest ticks take longer.");
+    let cells = cells(1, measure);
+    print_cells("curve", "ticks", &cells);
+    print_ratios(&cells);
+}
