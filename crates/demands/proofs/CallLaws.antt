@@ -34,6 +34,10 @@ use Rattle.demands.proofs.TableLaws.{own-lines, passed}
 pub both : {P Q R : Type 0} → P ↔ Q → Q ↔ R → P ↔ R
 both f g = (λ p. g .0 (f .0 p), λ r. f .1 (g .1 r))
 
+-- an equivalence of the second of two facts
+pub beside : {P Q R : Type 0} → Q ↔ R → (P × Q) ↔ (P × R)
+beside f = (λ w. (w .0, f .0 (w .1)), λ w. (w .0, f .1 (w .1)))
+
 -- a list in front of a slice is its first elements, and what lies behind is as before
 in-front : {A : Type 0} (x lent : List A) (n : ℕ) → length x ≡ n → (take n (over x lent) ≡ x) × (drop n (over x lent) ≡ drop n lent)
 unfolding over
@@ -93,7 +97,7 @@ module _ {file : List ℕ} {B : Block} (well : WellFormed file B) where
   late-exactly = paths.late-exactly B (well .network) along some-gate
 
   pub late-or-not : (SeriesParallel B × (spare B <ℤ pos 0)) ↔ (SeriesParallel B × ((x : List ℕ) → ¬ (InTime B x)))
-  late-or-not = (λ w. (w .0, late-exactly .0 (w .1)), λ w. (w .0, late-exactly .1 (w .1)))
+  late-or-not = beside late-exactly
 
   -- a series-parallel block that some list brings in time passes 11 and 12
   pub in-time : {S : Type 0} {lent : S} {given : Outcome S → Type 0} {o : Outcome S} {y : List ℕ} → SeriesParallel B → InTime B y → SizingLines B lent given o → given o

@@ -9,11 +9,10 @@ use native.Mathlib.Nat.{add-zero}
 use native.Mathlib.Omega.{arith}
 use lib.IntN.{ℤ, pos, _-ℤ_}
 use lib.ListN.{length, getD, take, drop}
-use Rattle.lists.specs.Sum.{total}
 use Rattle.lists.specs.Over.{build, over}
 use Rattle.lists.specs.Search.{Lowest}
 use Rattle.lists.proofs.Compare.{le-or-lt}
-use Rattle.model.specs.Limits.{max-pairs, max-width}
+use Rattle.model.specs.Limits.{max-pairs, max-ticks}
 use Rattle.model.specs.Block.{Block, redated, gate-count, first, last}
 use Rattle.model.specs.Netlist.{Netlist, block-of}
 use Rattle.model.specs.File.{Limited, found, decode, encode}
@@ -22,7 +21,7 @@ use Rattle.model.specs.Gain.{saving}
 use Rattle.model.specs.InTime.{drawn, Within, AnyTime, InTime, IsStart}
 use Rattle.model.specs.Ties.{Before}
 use Rattle.model.specs.Best.{Best}
-use Rattle.model.specs.Curve.{Pair, count-off, IsCurve}
+use Rattle.model.specs.Curve.{Pair, all-ticks, count-off, IsCurve}
 use Rattle.model.specs.Part.{Shape, Whole, SeriesParallel, lone, built}
 use Rattle.model.specs.Slack.{source-delay, required-time, slack, start}
 use Rattle.model.specs.Ticks.{Reached, Fewest}
@@ -36,15 +35,14 @@ use Rattle.model.proofs.File.{encode-decodes}
 use Rattle.model.proofs.Editions.{Agree, same-block-read}
 use Rattle.model.proofs.Ties.{before-exactly}
 use Rattle.model.proofs.Slack as paths
-use Rattle.model.proofs.Curve.{count-off-whole}
-use Rattle.model.proofs.Ticks.{reached-by-curve, fewest-by-curve, fewest-small, unreached-exactly, ticks-redated}
+use Rattle.model.proofs.Ticks.{fewest-by-curve, unreached-by-curve, fewest-small, unreached-exactly, ticks-redated}
 use Rattle.model.proofs.Answer.{lowest-unique, ill-unique, eleven-unique}
 use Rattle.optimum.proofs.Scaling.{finer-ticks}
 use Rattle.parts.proofs.Remainder.{same-gates-left}
 use Rattle.parts.proofs.Remains.{some-end, left-exactly}
 use Rattle.shaping.proofs.Facts.{descending}
 use Rattle.demands.proofs.TableLaws.{ill-formed-number, same-outcomes, passed, decided, roomy, answered-at, eleven-line, after-eleven, behind-eleven-exactly}
-use Rattle.demands.proofs.CallLaws.{both, best-in-front, best-bytes, limits, as-network, some-gate, along, late-or-not, in-time, slacks-lines, curve-lines, best-lines, judge-lines, layout-lines, ticks-lines, best-accepts, layout-accepts, curve-accepts, ticks-accepts}
+use Rattle.demands.proofs.CallLaws.{both, beside, best-in-front, best-bytes, limits, as-network, some-gate, along, late-or-not, in-time, slacks-lines, curve-lines, best-lines, judge-lines, layout-lines, ticks-lines, best-accepts, layout-accepts, curve-accepts, ticks-accepts}
 use Rattle.demands.proofs.Judging.{accepted-in-time, accepted-saves}
 
 -- the block is one gate without a wire
@@ -228,24 +226,19 @@ module _ {file : List ℕ} {B : Block} (well : WellFormed file B) where
   pub seventeen-exactly : {wanted : ℕ} {o : Outcome (Unit {0})} → AnswersTicks file wanted o
       → (o .answer ≡ refusal 17 0) ↔ (SeriesParallel B × ((x : List ℕ) → AnyTime B x → saving B x < wanted))
   seventeen-exactly a =
-      let (there, back) = unreached-exactly (limits well) (well .network) (along well) in
-      both (behind-eleven-exactly (omega arith) ticks-accepts (ticks-lines well a)) (λ w. (w .0, there (w .1)), λ w. (w .0, back (w .1)))
+      both (behind-eleven-exactly (omega arith) ticks-accepts (ticks-lines well a)) (beside (unreached-exactly (limits well) (well .network) (along well)))
 
   -- .. and by the curve, as the sentence puts it: its saving at start and the gains of all its ticks are below. The fewest ticks by the curve are the first that come to the wanted saving.
   pub seventeen-by-curve : {s a wanted : ℕ} {ps : List Pair} {o : Outcome (Unit {0})} → IsCurve B s a ps → AnswersTicks file wanted o
-      → (o .answer ≡ refusal 17 0) ↔ (SeriesParallel B × (a + count-off ps (total (λ (p : Pair). p .width) ps) < wanted))
-  seventeen-by-curve {wanted = wanted} {ps = ps} c answers =
-      both (behind-eleven-exactly (omega arith) ticks-accepts (ticks-lines well answers)) (
-        λ w.
-            (w .0, ⊎-elim (λ h. absurd (w .1 (total (λ (p : Pair). p .width) ps) (reached-by-curve start-is c wanted (total (λ (p : Pair). p .width) ps) .1 h))) (λ l. l) (le-or-lt wanted _)),
-        λ w. (w .0, λ k r. let below = w .1 in omega (arith, reached-by-curve start-is c wanted k .0 r, count-off-whole ps k)),
-      )
+      → (o .answer ≡ refusal 17 0) ↔ (SeriesParallel B × (a + count-off ps (all-ticks ps) < wanted))
+  seventeen-by-curve {wanted = wanted} c answers =
+      both (behind-eleven-exactly (omega arith) ticks-accepts (ticks-lines well answers)) (beside (unreached-by-curve start-is c wanted))
 
   pub ticks-by-curve : {s a : ℕ} {ps : List Pair} → IsCurve B s a ps → (wanted k : ℕ) → Fewest B wanted k ↔ Lowest (λ (j : ℕ). wanted ≤ a + count-off ps j) k
   ticks-by-curve = fewest-by-curve start-is
 
-  -- A list never needs more ticks than all steps have, so an answer is at most 512 × 4,095 (by named limits).
-  pub ticks-few : {wanted k : ℕ} → Fewest B wanted k → k ≤ max-pairs * max-width
+  -- A list never needs more ticks than all steps have, so an answer is at most 512 × 4,095.
+  pub ticks-few : {wanted k : ℕ} → Fewest B wanted k → k ≤ max-ticks
   ticks-few = fewest-small (limits well) (well .network) (along well)
 
   pub ticks-eleven-exactly : {wanted : ℕ} {o : Outcome (Unit {0})} → AnswersTicks file wanted o → ElevenExactly B o

@@ -1,15 +1,13 @@
 -- The place of a refusal of 1 to 9 is at most `file-most`, however long the file is: `ill-formed-place`. So it fits in 32 bits: `loading-place`.
 -- The idea: the offset of a field at fault is at most so large (`fault-early`), and a gate's number is below 64.
 -- Assumes nothing.
-use mathlib.Core.Path.{_≡_, subst}
+use mathlib.Core.Path.{_≡_}
 use mathlib.Core.List.{List}
 use Prim.Native.Nat.{ℕ, _^_, _<_, _≤_}
 use native.Mathlib.Omega.{arith}
-use lib.ListN.{length, getD}
-use Rattle.lists.proofs.Member.{placed}
 use Rattle.model.specs.declared.Refusal.{Refusal}
 use Rattle.model.specs.Limits.{max-gates}
-use Rattle.model.specs.Block.{Wire, Block, Stands}
+use Rattle.model.specs.Block.{Block}
 use Rattle.model.specs.Netlist.{block-of}
 use Rattle.model.specs.Path.{step, on}
 use Rattle.model.specs.File.{found, decode, read-block}

@@ -10,7 +10,7 @@ use Rattle.lists.specs.Sum.{total}
 use Rattle.lists.proofs.Compare.{compared}
 use Rattle.model.specs.Block.{Block}
 use Rattle.model.specs.InTime.{IsStart}
-use Rattle.model.specs.Curve.{Pair, first-gain, Falling, count-off, IsCurve}
+use Rattle.model.specs.Curve.{Pair, first-gain, Falling, all-ticks, count-off, IsCurve}
 use Rattle.model.proofs.Best.{best-saving-unique}
 
 pub count-off-none : (ps : List Pair) → count-off ps 0 ≡ 0
@@ -45,13 +45,13 @@ count-off-grows (p ∷ ps) j k h =
     let here : min j (p .width) * p .gain ≤ min k (p .width) * p .gain = mul-le-mul-right (p .gain) (omega arith) in
     omega (arith, count-off-grows ps (j - p .width) (k - p .width) (omega arith))
 
--- the ticks of all pairs earn the most
-pub count-off-whole : (ps : List Pair) (k : ℕ) → count-off ps k ≤ count-off ps (total (λ (p : Pair). p .width) ps)
+-- the whole curve earns the most
+pub count-off-whole : (ps : List Pair) (k : ℕ) → count-off ps k ≤ count-off ps (all-ticks ps)
 unfolding count-off total
 count-off-whole [] k = omega arith
 count-off-whole (p ∷ ps) k =
     let here : min k (p .width) * p .gain ≤ p .width * p .gain = mul-le-mul-right (p .gain) (omega arith) in
-    omega (arith, count-off-whole ps (k - p .width), count-off-beyond p ps (total (λ (q : Pair). q .width) ps))
+    omega (arith, count-off-whole ps (k - p .width), count-off-beyond p ps (all-ticks ps))
 
 -- the first tick earns the first gain
 pub count-off-one : (ps : List Pair) → Falling ps → count-off ps 1 ≡ first-gain ps

@@ -1,28 +1,28 @@
--- The fewest ticks for a wanted saving: what the curve says of them, that no block of a file needs more than its steps have ticks, and that no number of ticks is enough exactly when no list at all saves as much.
--- Assumes of the block, in the last section: no gate is at fault with its wires, the gates can be numbered along the wires, and its numbers are within the limits of a file.
+-- The fewest ticks for a wanted saving: what the curve says of them; that no block of a file needs more than the steps of a block have ticks, and no number of ticks is enough exactly when no list at all saves as much; that arrival and deadline play no part.
+-- Assumes of the block, where it is a file's: no gate is at fault with its wires, the gates can be numbered along the wires, and its numbers are within the limits of a file.
 use mathlib.Core.Path.{_≡_}
 use mathlib.Core.Logic.{_↔_, ⊎-elim}
 use mathlib.Core.List.{List}
 use Prim.Native.Nat.{ℕ, _+_, _*_, _-_, _≤_, _<_}
 use native.Mathlib.Nat.{mul-le-mul-right, add-mul}
 use native.Mathlib.Omega.{arith}
-use lib.ListN.{getD}
 use Rattle.lists.specs.Search.{Lowest}
 use Rattle.lists.proofs.Compare.{le-or-lt}
 use Rattle.lists.proofs.Search.{lowest-alike}
-use Rattle.model.specs.Limits.{max-gates, max-steps, max-width, max-pairs}
+use Rattle.model.specs.Limits.{max-gates, max-steps, max-width, max-ticks}
 use Rattle.model.specs.Block.{Wire, Block, redated, gate-count, first}
 use Rattle.model.specs.Path.{Path, stay, go}
 use Rattle.model.specs.Gain.{saving, gain, input-activity}
 use Rattle.model.specs.InTime.{drawn, slowed, Sizing, Within, AnyTime, IsStart}
-use Rattle.model.specs.Curve.{Pair, count-off, IsCurve}
+use Rattle.model.specs.Best.{BestSaving}
+use Rattle.model.specs.Curve.{Pair, all-ticks, count-off, IsCurve}
 use Rattle.model.specs.Part.{SeriesParallel, lone, built}
 use Rattle.model.specs.Remainder.{Remains}
 use Rattle.model.specs.Slack.{start}
-use Rattle.model.specs.Ticks.{Reached, Fewest}
+use Rattle.model.specs.Ticks.{Reached, Fewest, Unreachable}
 use Rattle.model.specs.Refusal.{SoundNetwork}
 use Rattle.model.specs.Answer.{Outcome, fits, passes, NotSeriesParallelAt, fewest, TicksLines}
-use Rattle.model.proofs.Curve.{start-unique}
+use Rattle.model.proofs.Curve.{count-off-whole, start-unique}
 use Rattle.model.proofs.Source.{Along}
 use Rattle.model.proofs.Limited.{BlockLimits, widths-most}
 use Rattle.model.proofs.Slack.{start-is}
@@ -32,14 +32,24 @@ module _ {B : Block} {s a : ℕ} {ps : List Pair} (is : IsStart B (start B)) (c 
   start-same : start B ≡ s
   start-same = start-unique B (start B) s is (c .starts)
 
+  best-after : (k : ℕ) → BestSaving B (start B + k) (a + count-off ps k)
+  best-after k = rw start-same (c .best k)
+
   pub reached-by-curve : (k : ℕ) → Reached B wanted k ↔ (wanted ≤ a + count-off ps k)
   reached-by-curve k = (
-    λ r. omega (arith, r .saves, c .best k .greatest (r .list) (rw start-same at (r .within))),
-    λ l. let b = c .best k in record { list = b .list; within = rw start-same (b .within); saves = omega (arith, b .saves) },
+    λ r. omega (arith, r .saves, best-after k .greatest (r .list) (r .within)),
+    λ l. let b = best-after k in record { list = b .list; within = b .within; saves = omega (arith, b .saves) },
   )
 
   pub fewest-by-curve : (k : ℕ) → Fewest B wanted k ↔ Lowest (λ (j : ℕ). wanted ≤ a + count-off ps j) k
   fewest-by-curve k = (lowest-alike reached-by-curve, lowest-alike (λ j. (reached-by-curve j .1, reached-by-curve j .0)))
+
+  -- no number of ticks is enough exactly when "even the whole curve stays below"
+  pub unreached-by-curve : Unreachable B wanted ↔ (a + count-off ps (all-ticks ps) < wanted)
+  unreached-by-curve = (
+    λ none. ⊎-elim (λ (h : wanted ≤ a + count-off ps (all-ticks ps)). absurd (none (all-ticks ps) (reached-by-curve (all-ticks ps) .1 h))) (λ l. l) (le-or-lt wanted (a + count-off ps (all-ticks ps))),
+    λ below k r. omega (arith, reached-by-curve k .0 r, count-off-whole ps k),
+  )
 
 -- where each gate is slowed by at most m, a path lasts at most m longer for each gate from its first on in the numbering
 module _ {ws : List Wire} {d e : ℕ → ℕ} {n : ℕ} (m : ℕ) (order : Along ws n) (slower : (g : ℕ) → g < n → e g ≤ d g + m) where
@@ -53,14 +63,14 @@ module _ {ws : List Wire} {d e : ℕ → ℕ} {n : ℕ} (m : ℕ) (order : Along
       let one : n - order .place c + 1 ≤ n - order .place a = omega (arith, order .below c inside, order .grows a c w on) in
       (d a + w + u, go on path, omega (arith, slower a l, mul-le-mul-right m one, add-mul (n - order .place c) 1 m))
 
--- a list within a time is a list within the widths
+-- a list within a time is one within the widths
 any-time : {B : Block} {ok : ℕ → Type 0} {x : List ℕ} → Sizing B ok x → AnyTime B x
 any-time sized = record { one-each = sized .one-each; within-widths = sized .within-widths; paths = λ t p. tt }
 
 -- OF A FILE'S BLOCK
 module _ {B : Block} (limits : BlockLimits B) (sound : SoundNetwork B) (order : Along (B .wires) (gate-count B)) where
-  -- the ticks of all steps that a file's block can have are enough for every list
-  pub any-time-within : {x : List ℕ} → AnyTime B x → Within B (start B + max-pairs * max-width) x
+  -- as many ticks as the steps of a block can have are enough for every list
+  pub any-time-within : {x : List ℕ} → AnyTime B x → Within B (start B + max-ticks) x
   any-time-within {x} sized =
       record {
         one-each = sized .one-each;
@@ -75,19 +85,19 @@ module _ {B : Block} (limits : BlockLimits B) (sound : SoundNetwork B) (order : 
       slower g l = omega (arith, sized .within-widths g l, widths-most (limits .gate-limits g))
 
   -- whatever is reached is reached with so many ticks
-  reached-soon : {wanted k : ℕ} → Reached B wanted k → Reached B wanted (max-pairs * max-width)
+  reached-soon : {wanted k : ℕ} → Reached B wanted k → Reached B wanted max-ticks
   reached-soon r = record { list = r .list; within = any-time-within (any-time (r .within)); saves = r .saves }
 
-  pub fewest-small : {wanted k : ℕ} → Fewest B wanted k → k ≤ max-pairs * max-width
+  pub fewest-small : {wanted k : ℕ} → Fewest B wanted k → k ≤ max-ticks
   fewest-small {wanted} {k} f =
-      ⊎-elim (λ (h : k ≤ max-pairs * max-width). h) (λ h. absurd (f .none-below (max-pairs * max-width) h (reached-soon (f .holds))))
-      (le-or-lt k (max-pairs * max-width))
+      ⊎-elim (λ (h : k ≤ max-ticks). h) (λ h. absurd (f .none-below max-ticks h (reached-soon (f .holds))))
+      (le-or-lt k max-ticks)
 
   -- no number of ticks is enough exactly when no list at all, whatever time it takes, saves as much
-  pub unreached-exactly : {wanted : ℕ} → ((k : ℕ) → ¬ (Reached B wanted k)) ↔ ((x : List ℕ) → AnyTime B x → saving B x < wanted)
+  pub unreached-exactly : {wanted : ℕ} → Unreachable B wanted ↔ ((x : List ℕ) → AnyTime B x → saving B x < wanted)
   unreached-exactly {wanted} = (
     λ none x sized.
-        ⊎-elim (λ (h : wanted ≤ saving B x). absurd (none (max-pairs * max-width) (record { list = x; within = any-time-within sized; saves = h }))) (λ h. h)
+        ⊎-elim (λ (h : wanted ≤ saving B x). absurd (none max-ticks (record { list = x; within = any-time-within sized; saves = h }))) (λ h. h)
         (le-or-lt wanted (saving B x)),
     λ less k r. omega (arith, r .saves, less (r .list) (any-time (r .within))),
   )
@@ -121,11 +131,7 @@ not-fits-redated B (none, low) = (λ sp. none (fits-redated B sp), lowest-alike 
 fewest-redated : (B : Block) {a d b e wanted k : ℕ} → Fewest (redated a d B) wanted k → Fewest (redated b e B) wanted k
 fewest-redated B = lowest-alike (λ k. (reached-redated B, reached-redated B))
 
--- what 17 says
-abbrev Unreached : Block → ℕ → Type 0
-Unreached B wanted = SeriesParallel B × ((k : ℕ) → ¬ (Reached B wanted k))
-
-unreached-redated : (B : Block) {a d b e wanted : ℕ} → Unreached (redated a d B) wanted → Unreached (redated b e B) wanted
+unreached-redated : (B : Block) {a d b e wanted : ℕ} → SeriesParallel (redated a d B) × Unreachable (redated a d B) wanted → SeriesParallel (redated b e B) × Unreachable (redated b e B) wanted
 unreached-redated B (sp, none) = (fits-redated B sp, λ k r. none k (reached-redated B r))
 
 pub ticks-redated : (B : Block) {a d b e wanted : ℕ} {o : Outcome (Unit {0})} → TicksLines wanted (redated a d B) o → TicksLines wanted (redated b e B) o

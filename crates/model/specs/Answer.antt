@@ -25,7 +25,7 @@ use Rattle.model.specs.Curve.{Pair, IsCurve}
 use Rattle.model.specs.Part.{SeriesParallel}
 use Rattle.model.specs.Remainder.{Remains}
 use Rattle.model.specs.Slack.{slack, spare}
-use Rattle.model.specs.Ticks.{Reached, Fewest}
+use Rattle.model.specs.Ticks.{Fewest, Unreachable}
 use Rattle.model.specs.Refusal.{WellFormed, IllFormed}
 
 -- An answer in document 01's numbers: 0 and the values of an accepted answer, or a refusal's number and its place.
@@ -201,7 +201,7 @@ pub data GivesTicks (B : Block) (wanted : ℕ) (o : Outcome (Unit {0})) : Type 0
 
 -- 17: it is series-parallel, and no number of ticks reaches the wanted saving; its place is 0
 abbrev pub UnreachedAt : Block → ℕ → ℕ → Type 0
-UnreachedAt B wanted = At 0 (SeriesParallel B × ((k : ℕ) → ¬ (Reached B wanted k)))
+UnreachedAt B wanted = At 0 (SeriesParallel B × Unreachable B wanted)
 
 -- the lines of the fewest ticks from 11 on, of a well-formed block
 abbrev pub TicksLines : ℕ → Block → Outcome (Unit {0}) → Type 0

@@ -1,6 +1,7 @@
 -- The saving curve, and what ticks counted off it earn (document 01, "Gains, paths, building up").
 use mathlib.Core.List.{List, [], _∷_}
 use Prim.Native.Nat.{ℕ, _+_, _*_, _-_, _≤_, _<_, min}
+use Rattle.lists.specs.Sum.{total}
 use Rattle.model.specs.Block.{Block}
 use Rattle.model.specs.InTime.{IsStart}
 use Rattle.model.specs.Best.{BestSaving}
@@ -19,6 +20,10 @@ first-gain (p ∷ ps) = p .gain
 abbrev pub Falling : List Pair → Type 0
 Falling [] = Unit {0}
 Falling (p ∷ ps) = (1 ≤ p .width) × (first-gain ps < p .gain) × Falling ps
+
+-- the ticks of all pairs: the whole curve
+abbrev pub all-ticks : List Pair → ℕ
+all-ticks = total (λ (p : Pair). p .width)
 
 -- What the first k ticks of a curve earn: they "are counted off the curve from its front; those beyond its end earn 0".
 unfoldable pub count-off : List Pair → ℕ → ℕ

@@ -49,6 +49,10 @@ max-bytes = 8192
 abbrev pub max-pairs : ℕ
 max-pairs = max-gates * max-steps
 
+-- ticks of all steps of a block, at most: no list needs more
+abbrev pub max-ticks : ℕ
+max-ticks = max-pairs * max-width
+
 -- activity of a net, transitions in 65,536 clock cycles, at most
 abbrev pub max-activity : ℕ
 max-activity = 65535

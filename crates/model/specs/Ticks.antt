@@ -17,3 +17,7 @@ pub record Reached (B : Block) (wanted k : ℕ) : Type 0 where
 -- "the fewest spare ticks that reach it": k ticks do, and no fewer. "The saving at start counts", since k may be 0.
 abbrev pub Fewest : Block → ℕ → ℕ → Type 0
 Fewest B wanted = Lowest (Reached B wanted)
+
+-- "even the whole curve stays below the wanted saving": no number of ticks reaches it.
+abbrev pub Unreachable : Block → ℕ → Type 0
+Unreachable B wanted = (k : ℕ) → ¬ (Reached B wanted k)

@@ -2,10 +2,10 @@
 -- Assumes nothing.
 use mathlib.Core.Path.{refl}
 use mathlib.Core.List.{List, [], _∷_}
-use Prim.Native.Nat.{ℕ, _+_, _*_, _≤_, _<_}
+use Prim.Native.Nat.{ℕ, _+_, _≤_, _<_}
 use native.Mathlib.Omega.{arith}
 use Rattle.lists.specs.Search.{Lowest}
-use Rattle.model.specs.Limits.{max-pairs, max-width}
+use Rattle.model.specs.Limits.{max-ticks}
 use Rattle.model.specs.Curve.{Pair, count-off}
 use Rattle.model.specs.InTime.{IsStart}
 use Rattle.model.specs.Slack.{start}
@@ -35,7 +35,7 @@ module _ {file : List ℕ} {at-start : ℕ} {ps : List Pair} (k : Known file at-
     is-fewest = fewest-by-curve starts (k .is-curve) wanted ticks .1 lowest
 
     -- they fit 32 bits
-    pub ticks-few : ticks ≤ max-pairs * max-width
+    pub ticks-few : ticks ≤ max-ticks
     ticks-few = fewest-small limits (k .well .network) (sound-along limits (k .well .network)) is-fewest
 
     pub ticks-given : AnswersTicks file wanted (record { answer = accepted (ticks ∷ []); memory = tt })

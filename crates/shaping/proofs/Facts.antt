@@ -1,6 +1,6 @@
 -- A block within the limits whose network is sound is one that the reduction and the theorem (optimum) may take: its wires join its gates, none stands twice, its drops fall, its activities and drops are bounded.
 -- Assumes nothing.
-use mathlib.Core.Path.{_≡_, refl, sym, ap, subst}
+use mathlib.Core.Path.{_≡_, refl, sym, ap}
 use mathlib.Core.Logic.{_≢_, _⊎_, inl, inr}
 use mathlib.Core.Bool.{Bool, true, false, cond}
 use mathlib.Core.List.{List, [], _∷_}

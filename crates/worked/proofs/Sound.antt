@@ -17,15 +17,14 @@ use Rattle.model.specs.Block.{Block, gate, gate-count}
 use Rattle.model.specs.Gain.{saving}
 use Rattle.model.specs.InTime.{slowed, IsStart}
 use Rattle.model.specs.Best.{Best}
-use Rattle.model.specs.Curve.{count-off, IsCurve}
+use Rattle.model.specs.Curve.{all-ticks, IsCurve}
 use Rattle.model.specs.Part.{SeriesParallel}
 use Rattle.model.specs.Slack.{start, spare}
-use Rattle.model.specs.Ticks.{Reached, Fewest}
+use Rattle.model.specs.Ticks.{Fewest}
 use Rattle.model.specs.File.{Reading, found, refused, read-block}
 use Rattle.model.specs.Refusal.{unread}
 use Rattle.model.specs.Answer.{Outcome, Line, fits, passes, At, Judged, ill-formed, well-formed, Gives, Exceeds, PathNotInTime, Slices, curve, CurveLines, best, BestLines, GivesTicks, fewest, UnreachedAt, TicksLines}
-use Rattle.model.proofs.Curve.{count-off-whole}
-use Rattle.model.proofs.Ticks.{reached-by-curve, fewest-by-curve}
+use Rattle.model.proofs.Ticks.{fewest-by-curve, unreached-by-curve}
 use Rattle.model.proofs.Limited.{read-limits}
 use Rattle.model.proofs.Slack.{start-is, late-is}
 use Rattle.optimum.specs.Tree.{Tree}
@@ -40,7 +39,7 @@ use Rattle.parts.specs.Reduce.{gate-left}
 use Rattle.parts.proofs.Ascending.{ascending-network}
 use Rattle.parts.proofs.Remains.{gate-left-lowest}
 use Rattle.worked.specs.Call.{Call, find-slacks, judge-list, find-curve, find-best, find-ticks, file-of, Allows}
-use Rattle.worked.specs.Computed.{tree, lowest, slacks-of, time-under, judged, exceeds, judge-of, curve-by, curve-of, increases-by, best-by, best-of, reaches, all-ticks, ticks-found, ticks-by, by-reading, computed, rises}
+use Rattle.worked.specs.Computed.{tree, lowest, slacks-of, time-under, judged, exceeds, judge-of, curve-by, curve-of, increases-by, best-by, best-of, reaches, ticks-found, ticks-by, by-reading, computed, rises}
 use Rattle.worked.proofs.Tree.{Found, tree-found}
 use Rattle.worked.proofs.Lines.{line-by, less-says, FindsLowest, lowest-finds, descending, sound-network, along, lasts}
 
@@ -119,7 +118,7 @@ module _ (file : List ℕ) (B : Block) (end : ℕ) (reads : read-block file ≡ 
   -- the fewest ticks by the curve of the block's tree
   ticks-line : (wanted : ℕ) (r : Option Tree) → Found B r → TicksLines wanted B (ticks-by B wanted r)
   ticks-line wanted none f = fits (gate-left B) (f, gate-left-lowest network f) refl
-  ticks-line wanted (some t) (s, e) = passes (λ p n. n .0 s) (by (lowest (reaches B t wanted) (suc (all-ticks B t))) (lowest-finds (reaches B t wanted) (suc (all-ticks B t))))
+  ticks-line wanted (some t) (s, e) = passes (λ p n. n .0 s) (by (lowest (reaches B t wanted) (suc (all-ticks (pairs-of B t)))) (lowest-finds (reaches B t wanted) (suc (all-ticks (pairs-of B t)))))
     where
       is-start : IsStart B (start B)
       is-start = start-is B (sound-network network) (along B h) (network .some-gate)
@@ -127,11 +126,8 @@ module _ (file : List ℕ) (B : Block) (end : ℕ) (reads : read-block file ≡ 
       is-curve : IsCurve B (start-of B t) (saving B (increases B t 0)) (pairs-of B t)
       is-curve = curve-by-tree B h falls t (s, e)
 
-      unreached : reaches B t wanted (all-ticks B t) ≡ false → (k : ℕ) → ¬ (Reached B wanted k)
-      unreached below k r = let most = leb-false wanted (saving B (increases B t 0) + count-off (pairs-of B t) (all-ticks B t)) below in omega (arith, reached-by-curve is-start is-curve wanted k .0 r, count-off-whole (pairs-of B t) k)
-
-      by : (r : Option ℕ) → FindsLowest (reaches B t wanted) (suc (all-ticks B t)) r → Line tt 17 (UnreachedAt B wanted) (GivesTicks B wanted) (ticks-found r)
-      by none f = fits 0 (refl, (s, unreached (f (all-ticks B t) (omega arith)))) refl
+      by : (r : Option ℕ) → FindsLowest (reaches B t wanted) (suc (all-ticks (pairs-of B t))) r → Line tt 17 (UnreachedAt B wanted) (GivesTicks B wanted) (ticks-found r)
+      by none f = fits 0 (refl, (s, unreached-by-curve is-start is-curve wanted .1 (leb-false wanted _ (f (all-ticks (pairs-of B t)) (omega arith))))) refl
       by (some k) (l, reached, before) =
           let lowest : Fewest B wanted k = fewest-by-curve is-start is-curve wanted k .1 (record { holds = leb-true _ _ reached; none-below = λ j b w. false≢true (sym (before j b) ∙ le-leb _ _ w) }) in
           passes (λ p u. u .1 .1 k (lowest .holds)) (fewest k s lowest refl)

@@ -7,13 +7,12 @@ use Prim.Native.Nat.{ℕ, zero, suc, _+_, _-_}
 use lib.Dec.{leb, ltb, eqb}
 use lib.IntN.{ℤ}
 use lib.ListN.{length, getD, take}
-use Rattle.lists.specs.Sum.{total}
 use Rattle.lists.specs.Over.{build, over}
 use Rattle.model.specs.Limits.{max-pairs}
 use Rattle.model.specs.Block.{Block, gate, gate-count, last, widths}
 use Rattle.model.specs.Gain.{saving}
 use Rattle.model.specs.InTime.{slowed}
-use Rattle.model.specs.Curve.{Pair, count-off}
+use Rattle.model.specs.Curve.{Pair, all-ticks, count-off}
 use Rattle.model.specs.Slack.{source-by, slack, start}
 use Rattle.model.specs.File.{Reading, found, refused, read-block}
 use Rattle.model.specs.Answer.{Outcome, refusal, accepted, Slices}
@@ -107,10 +106,6 @@ best-of B lent =
 abbrev pub reaches : Block → Tree → ℕ → ℕ → Bool
 reaches B t wanted k = leb wanted (saving B (increases B t 0) + count-off (pairs-of B t) k)
 
--- the ticks of all pairs of that curve
-abbrev pub all-ticks : Block → Tree → ℕ
-all-ticks B t = total (λ (p : Pair). p .width) (pairs-of B t)
-
 -- the fewest ticks, once it is known which come to the wanted saving first
 abbrev pub ticks-found : Option ℕ → Outcome (Unit {0})
 ticks-found none = refuses 17 0 tt
@@ -118,7 +113,7 @@ ticks-found (some k) = gives (k ∷ []) tt
 
 abbrev pub ticks-by : Block → ℕ → Option Tree → Outcome (Unit {0})
 ticks-by B wanted none = refuses 11 (gate-left B) tt
-ticks-by B wanted (some t) = ticks-found (lowest (reaches B t wanted) (suc (all-ticks B t)))
+ticks-by B wanted (some t) = ticks-found (lowest (reaches B t wanted) (suc (all-ticks (pairs-of B t))))
 
 -- the outcome by what reading finds
 abbrev pub by-reading : {S : Type 0} → Reading Block → S → (Block → S → Outcome S) → Outcome S

@@ -37,14 +37,14 @@ ticks-of-requires c κs =
     let a = c .before .before .before .before .before .before .before .before .before .before .before .args in
     let l = c .before .before .before .before .before .before .loop in
     let t = c .before .before .before .rest in
-    (turn-gains (a .pairs) (a .widths .now) (a .gains .now) (a .at-start) (a .wanted) (l .next) (l .ticks) (l .need) (l .inv) (omega arith) (t .result) (t .ensures) (c .element .result) (c .element .ensures) (c .before .if3 .taken), l .inv .some)
+    (turn-gains (a .pairs) (a .widths .now) (a .gains .now) (a .at-start) (a .wanted) (l .next) (l .ticks) (l .need) (l .inv) (omega arith) (t .result) (t .ensures) (c .element .result) (c .element .ensures) (omega arith), omega (arith, l .inv .some))
 
 add-reached : tie.Need-add-reached Inv-loop μ-loop
 add-reached c =
     let a = c .before .before .before .before .before .before .before .before .before .before .before .before .args in
     let l = c .before .before .before .before .before .before .before .loop in
     let t = c .before .before .before .before .rest in
-    let few = turn-few (a .pairs) (a .widths .now) (a .gains .now) (a .at-start) (a .wanted) (l .next) (l .ticks) (l .need) (l .inv) (omega arith) (t .result) (t .ensures) (c .before .element .result) (c .before .element .ensures) (c .before .before .if3 .taken) (c .ticks-of .ensures) in
+    let few = turn-few (a .pairs) (a .widths .now) (a .gains .now) (a .at-start) (a .wanted) (l .next) (l .ticks) (l .need) (l .inv) (omega arith) (t .result) (t .ensures) (c .before .element .result) (c .before .element .ensures) (omega arith) (c .ticks-of .ensures) in
     omega (arith, l .inv .few, c .before .before .before .before .before .before .before .before .before .before .before .before .pre)
 
 returns-2 : tie.Need-returns-2 Inv-loop μ-loop
@@ -52,7 +52,7 @@ returns-2 c =
     let a = c .before .before .before .before .before .before .before .before .before .before .before .before .args in
     let l = c .before .before .before .before .before .before .before .loop in
     let t = c .before .before .before .before .rest in
-    turn-reaches (a .pairs) (a .widths .now) (a .gains .now) (a .at-start) (a .wanted) (l .next) (l .ticks) (l .need) (l .inv) (omega arith) (t .result) (t .ensures) (c .before .element .result) (c .before .element .ensures) (c .before .before .if3 .taken) (c .ticks-of .ensures)
+    turn-reaches (a .pairs) (a .widths .now) (a .gains .now) (a .at-start) (a .wanted) (l .next) (l .ticks) (l .need) (l .inv) (omega arith) (t .result) (t .ensures) (c .before .element .result) (c .before .element .ensures) (omega arith) (c .ticks-of .ensures)
 
 sub-need-2 : tie.Need-sub-need-2 Inv-loop μ-loop
 sub-need-2 c = search needs
@@ -75,7 +75,7 @@ loop-again c =
     let a = c .before .before .before .before .before .before .before .before .before .before .before .before .before .args in
     let l = c .before .before .before .before .before .before .before .before .loop in
     let t = c .before .before .before .before .before .rest in
-    turn-passes (a .pairs) (a .widths .now) (a .gains .now) (a .at-start) (a .wanted) (l .next) (l .ticks) (l .need) (l .inv) (omega arith) (t .result) (t .ensures) (omega arith) (c .before .before .before .if3 .left)
+    turn-passes (a .pairs) (a .widths .now) (a .gains .now) (a .at-start) (a .wanted) (l .next) (l .ticks) (l .need) (l .inv) (omega arith) (t .result) (t .ensures) (omega arith) (omega arith)
 
 returns-3 : tie.Need-returns-3 Inv-loop μ-loop
 returns-3 c = nowhere (c .before .before .loop .inv) (rw length-build (omega arith))
