@@ -203,6 +203,8 @@ table =
     -- K6, "the block's own deadline plays no part": with 6, where D is late, and with 0
     ∷ record { call = find-ticks (diamond 6) (44 * U + 1); expected = gives (4 ∷ []) tt }
     ∷ record { call = find-ticks (diamond 0) (92 * U + 1); expected = refuses 17 0 tt }
+    -- K6 with wire delays 1, 0, 0 and 2 (K2): 4U at start and 12U for each of the first 5 ticks
+    ∷ record { call = find-ticks (delayed-diamond 1 0 0 2) (52 * U + 1); expected = gives (5 ∷ []) tt }
     -- K6: a block without a step saves nothing; 11 and what every call has in common come first, also where nothing is wanted
     ∷ record { call = find-ticks triangle 0; expected = gives (0 ∷ []) tt }
     ∷ record { call = find-ticks triangle 1; expected = refuses 17 0 tt }
