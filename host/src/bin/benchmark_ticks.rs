@@ -1,5 +1,7 @@
 //! benchmark-ticks: the library's fewest ticks for a wanted saving (document 02, K6) against its curve, on the same blocks in the
 //! same run. Wanted is all that the curve earns, so that every pair of it is passed. Each time is the least of several rounds.
+//! The fewest ticks make two slices of their own for the curve, so the second comparison is with a caller who makes them anew
+//! for each call too.
 
 #[path = "../probes.rs"]
 mod probes;
@@ -14,8 +16,8 @@ fn whole(file: &[u8]) -> (u64, u64) {
     (curve.counted_off(curve.ticks()), curve.ticks())
 }
 
-/// The curve, and the fewest ticks measured against it.
-fn measure(files: &[Vec<u8>]) -> Times {
+/// The curve, to slices that are cleared before each call or not, and the fewest ticks measured against it.
+fn measure(files: &[Vec<u8>], cleared: bool) -> Times {
     let (mut widths, mut gains) = ([0; MAX_PAIRS], [0; MAX_PAIRS]);
     let wanted: Vec<(&[u8], u64)> = files.iter().map(|file| (&file[..], whole(file).0)).collect();
     for (file, wanted) in &wanted {
@@ -23,14 +25,23 @@ fn measure(files: &[Vec<u8>]) -> Times {
     }
     least_times(
         &wanted,
-        |(file, _)| assert_eq!(black_box(probes::curve(file, &mut widths, &mut gains)).number, 0),
+        |(file, _)| {
+            if cleared {
+                black_box(&mut widths).fill(0);
+                black_box(&mut gains).fill(0);
+            }
+            assert_eq!(black_box(probes::curve(file, &mut widths, &mut gains)).number, 0)
+        },
         |(file, wanted)| assert_eq!(black_box(probes::fewest_ticks(file, *wanted)).number, 0),
     )
 }
 
 fn main() {
     println!("ratio = fewest ticks / curve, microseconds a call: above 1 the fewest ticks take longer.");
-    let cells = cells(1, measure);
-    print_cells("curve", "ticks", &cells);
-    print_ratios(&cells);
+    println!("the curve's slices are lent as they are:");
+    let lent = cells(1, |files| measure(files, false));
+    print_cells("curve", "ticks", &lent);
+    print_ratios(&lent);
+    println!("the same blocks, the curve's slices cleared before each call:");
+    print_ratios(&cells(1, |files| measure(files, true)));
 }
