@@ -32,7 +32,7 @@ fewest-of gain need g n =
       none-below = λ k l h. let most : k * gain ≤ (need - 1) / gain * gain = mul-le-mul-right gain (omega arith) in omega arith;
     }
 
--- `need` is still needed after `ticks` ticks, which have come to the position `next`.
+-- `need` is still needed after `ticks` ticks, which have come to the position `next`: with k ticks more, the saving at start, what the ticks earn and the need come to the wanted saving and what the k ticks earn from the position on.
 pub record Reaching (ps : List Pair) (at-start wanted : ℕ) (next : Position) (ticks need : ℕ) : Type 0 where
   pub some : 1 ≤ need
   pub few : ticks ≤ next .pair * greatest

@@ -24,7 +24,7 @@ fn ticks_of(gain: u32, need: u64) -> u64
 }
 
 // The fewest ticks with which the saving at start and what the ticks earn, counted off the front of the curve of `pairs` pairs, come to the wanted saving.
-// Public for the calls: they have a curve, which has at most as many pairs.
+// Public for `reaching` alone: the pairs that it has are those of a curve, at most 512, so that the ticks fit.
 pub fn ticks_for(widths: &[u32], gains: &[u32], pairs: usize, at_start: u64, wanted: u64) -> Reach
     requires { ⌜ pairs ≤ max-pairs ⌝ }
     ensures { λ r. ⌜ Reaches (pairs-in pairs (now (widths .entry)) (now (gains .entry))) «at_start» wanted r ⌝ }

@@ -23,7 +23,7 @@ use Rattle.blockfile.specs.Held.{GateArrays, WireArrays}
 use Rattle.loading.specs.Loads.{block-held, number-of, place-of}
 use Rattle.loading.specs.HeldFile.{HeldFile}
 use Rattle.loading.proofs.Held.{gates-are}
-use Rattle.loading.proofs.Refused.{refusal-numbered, refusal-is, passed-on}
+use Rattle.loading.proofs.Refused.{refusal-numbered, refusal-is, not-refused, passed-on}
 use Rattle.laying.specs.declared.answer.LayoutAnswer.{LayoutAnswer}
 use Rattle.laying.specs.Answered.{refused-as, leaves}
 
@@ -59,17 +59,12 @@ LayoutLines B lent = SizingLines B lent (GivesLayout B lent)
 refused-not-given : {A : Type 0} {s n : ℕ} {after other : List ℕ} (x : Refusal)
     → with-memory (refusal-answer x) after ≡ with-memory (accepted (s ∷ n ∷ [])) other
     → A
-refused-not-given x e =
-    let two = ap (λ (o : Outcome (List ℕ)). length (o .answer .values)) e in
-    let one = ap (λ (a : Answer). length (a .values)) (refusal-is x) in
-    absurd (omega arith)
+refused-not-given x e = not-refused (sym (ap (λ (o : Outcome (List ℕ)). o .answer) e) ∙ refusal-is x)
 
 given-not-refused : {A : Type 0} {s n k p : ℕ} {after other : List ℕ}
     → with-memory (accepted (s ∷ n ∷ [])) after ≡ with-memory (refusal k p) other
     → A
-given-not-refused e =
-    let two = ap (λ (o : Outcome (List ℕ)). length (o .answer .values)) e in
-    absurd (omega arith)
+given-not-refused e = not-refused (ap (λ (o : Outcome (List ℕ)). o .answer) e)
 
 same-refusal : {k p : ℕ} {after other : List ℕ} (x : Refusal) (lent : List ℕ)
     → with-memory (refusal-answer x) after ≡ with-memory (refusal k p) other

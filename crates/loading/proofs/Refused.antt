@@ -1,7 +1,7 @@
 -- Refusals of 1 to 9, which every call passes on with the lent memory unchanged.
 -- Assumes nothing.
 use mathlib.Core.Path.{_≡_, refl, sym, ap, subst}
-use mathlib.Core.List.{List}
+use mathlib.Core.List.{List, _∷_}
 use Prim.Native.Nat.{ℕ, suc}
 use native.Mathlib.Omega.{arith}
 use lib.ListN.{length, getD}
@@ -9,7 +9,7 @@ use Rattle.model.specs.declared.Refusal.{Refusal}
 use Rattle.model.specs.declared.Refusal.the-variants.{Short, Tag, Length, Range, Drops, Wire, Excess, Loop, Ends, Room, NotSeriesParallel, Late, Widths, PathLate, Unreached}
 use Rattle.model.specs.Block.{Block}
 use Rattle.model.specs.Refusal.{IllFormed}
-use Rattle.model.specs.Answer.{Answer, refusal, refusal-answer, Outcome, Judged, ill-formed}
+use Rattle.model.specs.Answer.{Answer, accepted, refusal, refusal-answer, Outcome, Judged, ill-formed}
 use Rattle.model.specs.Limits.{max-wires}
 use Rattle.blockfile.specs.Held.{WireArrays, WireRoom}
 use Rattle.loading.specs.Loads.{number-of, place-of}
@@ -35,6 +35,10 @@ refusal-numbered Unreached = (16, 0, refl)
 -- it is its number and its place
 pub refusal-is : (x : Refusal) → refusal-answer x ≡ refusal (number-of x) (place-of x)
 refusal-is x = let (k, p, e) = refusal-numbered x in subst (λ (a : Answer). a ≡ refusal (a .number) (getD (a .values) 0 0)) (sym e) refl
+
+-- a refusal has one value: an accepted answer with two or more is none
+pub not-refused : {A : Type 0} {a b k p : ℕ} {vs : List ℕ} → accepted (a ∷ b ∷ vs) ≡ refusal k p → A
+not-refused e = let values = ap (λ (x : Answer). length (x .values)) e in absurd (omega arith)
 
 pub passed-on : {S : Type 0} {file : List ℕ} {lent : S} {further : Block → Outcome S → Type 0} (x : Refusal)
     → IllFormed file (number-of x) (place-of x)

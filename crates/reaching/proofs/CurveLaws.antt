@@ -16,8 +16,8 @@ use Rattle.model.specs.Block.{Block}
 use Rattle.model.specs.Part.{SeriesParallel}
 use Rattle.model.specs.Curve.{Pair, IsCurve}
 use Rattle.model.specs.Refusal.{WellFormed}
-use Rattle.model.specs.Answer.{Answer, Outcome, Slices, accepted, refusal, refusal-answer, curve-answer, CurveBounds, fits, passes, ill-formed, well-formed, curve, AnswersCurve, AnswersTicks}
-use Rattle.loading.proofs.Refused.{refusal-numbered}
+use Rattle.model.specs.Answer.{Outcome, Slices, accepted, refusal, refusal-answer, curve-answer, CurveBounds, fits, passes, ill-formed, well-formed, curve, AnswersCurve, AnswersTicks}
+use Rattle.loading.proofs.Refused.{refusal-numbered, not-refused}
 use Rattle.curve.specs.Position.{pair-at, pairs-in, no-pair}
 use Rattle.reaching.specs.CurveKnown.{CurveKnown}
 
@@ -45,18 +45,14 @@ pub record Known (file : List ℕ) (at-start : ℕ) (ps : List Pair) : Type 0 wh
   pub start : ℕ
   pub is-curve : IsCurve block start at-start ps
 
--- a refusal has one value, an accepted curve three
-not-accepted : {A : Type 0} {k p : ℕ} {a b c : ℕ} → accepted (a ∷ b ∷ c ∷ []) ≡ refusal k p → A
-not-accepted e = let three = ap (λ (x : Answer). length (x .values)) e in absurd (omega arith)
-
 -- the curve that an accepted answer gives
 known-by : {file ws gs : List ℕ} {lent : Slices} {s a n : ℕ} → max-pairs ≤ length (lent .for-widths) → max-pairs ≤ length (lent .for-gains)
     → AnswersCurve file lent (record { answer = accepted (s ∷ a ∷ n ∷ []); memory = record { for-widths = ws; for-gains = gs } })
     → Known file a (pairs-in n ws gs)
-known-by wide long (ill-formed k p i e) = not-accepted (ap (λ o. o .answer) e)
-known-by wide long (well-formed B w (fits p f e)) = not-accepted (ap (λ o. o .answer) e)
-known-by wide long (well-formed B w (passes f (fits p g e))) = not-accepted (ap (λ o. o .answer) e)
-known-by wide long (well-formed B w (passes f (passes g (fits p h e)))) = not-accepted (ap (λ o. o .answer) e)
+known-by wide long (ill-formed k p i e) = not-refused (ap (λ o. o .answer) e)
+known-by wide long (well-formed B w (fits p f e)) = not-refused (ap (λ o. o .answer) e)
+known-by wide long (well-formed B w (passes f (fits p g e))) = not-refused (ap (λ o. o .answer) e)
+known-by wide long (well-formed B w (passes f (passes g (fits p h e)))) = not-refused (ap (λ o. o .answer) e)
 known-by {ws = ws} {gs = gs} {lent = lent} {a = a} {n = n} wide long (well-formed B w (passes f (passes g (passes h (curve start at-start ps sp c e))))) =
     let saved : a ≡ at-start = ap (λ (o : Outcome Slices). getD (o .answer .values) 1 0) e in
     let count : n ≡ length ps = ap (λ (o : Outcome Slices). getD (o .answer .values) 2 0) e in
@@ -72,7 +68,7 @@ refused-by wanted wide long (ill-formed k p i e) = ill-formed k p i (ap (λ o. r
 refused-by wanted wide long (well-formed B w (fits p (z, short) e)) = absurd (omega arith)
 refused-by wanted wide long (well-formed B w (passes f (fits p (z, short) e))) = absurd (omega arith)
 refused-by wanted wide long (well-formed B w (passes f (passes g (fits p h e)))) = well-formed B w (fits p h (ap (λ o. record { answer = o .answer; memory = tt }) e))
-refused-by wanted wide long (well-formed B w (passes f (passes g (passes h (curve start at-start ps sp c e))))) = not-accepted (sym (ap (λ o. o .answer) e))
+refused-by wanted wide long (well-formed B w (passes f (passes g (passes h (curve start at-start ps sp c e))))) = not-refused (sym (ap (λ o. o .answer) e))
 
 -- slices of zeros, as a call has them of its own
 abbrev zeros : Slices
