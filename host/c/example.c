@@ -1,13 +1,9 @@
 /* Reads a block file and prints the best increase of each gate: example FILE */
 
+#include "block_file.h"
 #include "honduvi.h"
 
 #include <inttypes.h>
-#include <stdio.h>
-
-/* A block file has at most 4,299 bytes; a longer one is refused however it goes on. */
-#define MOST_BYTES 8192
-#define MOST_GATES 64
 
 /* Four bytes, high byte first. */
 static uint32_t increase_of(const uint8_t *increases, size_t gate)
@@ -25,21 +21,14 @@ int main(int count, char **arguments)
         fprintf(stderr, "usage: example FILE\n");
         return 2;
     }
-    FILE *stream = fopen(arguments[1], "rb");
-    if (stream == NULL) {
-        perror(arguments[1]);
-        return 2;
-    }
-    size_t length = fread(file, 1, sizeof file, stream);
-    fclose(stream);
-
+    size_t length = read_block_file(arguments[1], file);
     honduvi_answer answer = honduvi_best_increases(file, length, increases, sizeof increases);
     if (answer.number != 0) {
         printf("refused %" PRIu32 " %" PRIu32 "\n", answer.number, answer.place);
-        return 1;
+        return written(1);
     }
     printf("saving %" PRIu64 "\n", answer.saving);
     for (size_t gate = 0; gate < answer.place; gate++)
         printf("%zu %" PRIu32 "\n", gate, increase_of(increases, gate));
-    return 0;
+    return written(0);
 }

@@ -1,8 +1,8 @@
-/* How much stack a call takes on the blocks of 64 gates that nest deepest, in every edition: stack BYTES fails where one
-   takes more. The call is the one that it is linked with: stack_layout.c or stack_ticks.c. */
+/* How much stack each call takes on the blocks of 64 gates that nest deepest, in every edition: stack BYTES fails where one
+   takes more. */
 
 #define _GNU_SOURCE
-#include "stack.h"
+#include "honduvi.h"
 
 #include <stdio.h>
 #include <stdlib.h>
@@ -11,9 +11,11 @@
 
 #define STACK (1 << 20)
 #define PAINT 0xa5
+#define GATES 64
+#define PAIRS 512
 
-uint8_t file[4096];
-size_t length;
+static uint8_t file[4096];
+static size_t length;
 static int edition;
 static ucontext_t caller, callee;
 
@@ -61,9 +63,42 @@ static void beside(void)
         put_wire(0, g), put_wire(g, GATES - 1);
 }
 
-void unexpected(void)
+static void expect(int holds)
 {
-    puts("stack: a block was answered otherwise than it should be"), exit(1);
+    if (!holds)
+        puts("stack: a block was answered otherwise than it should be"), exit(1);
+}
+
+static void best_increases(void)
+{
+    static uint8_t increases[4 * GATES];
+    expect(honduvi_best_increases(file, length, increases, sizeof increases).number == 0);
+}
+
+static void slacks(void)
+{
+    static int32_t slacks[GATES];
+    expect(honduvi_slacks(file, length, slacks, GATES).number == 0);
+}
+
+static void curve(void)
+{
+    static uint32_t widths[PAIRS], gains[PAIRS];
+    expect(honduvi_curve(file, length, widths, PAIRS, gains, PAIRS).number == 0);
+}
+
+static void judge(void)
+{
+    static const uint32_t increases[GATES];
+    expect(honduvi_judge(file, length, increases, GATES).number == 0);
+}
+
+/* nothing wanted, a little, and more than there is, so that the whole curve is passed */
+static void fewest_ticks(void)
+{
+    expect(honduvi_fewest_ticks(file, length, 0).number == 0);
+    expect(honduvi_fewest_ticks(file, length, 1).number == 0);
+    expect(honduvi_fewest_ticks(file, length, UINT64_MAX).number == 17);
 }
 
 static void nothing(void)
@@ -89,22 +124,40 @@ static size_t taken(void (*function)(void))
     return STACK - free;
 }
 
+/* the most that a call takes on a block of any shape, in any edition */
+static size_t most_taken(void (*call)(void))
+{
+    static void (*const shapes[])(void) = {chain, beside, ladder};
+    size_t most = 0;
+    for (edition = 1; edition <= 3; edition++)
+        for (size_t i = 0; i < sizeof shapes / sizeof shapes[0]; i++) {
+            put_gates();
+            shapes[i]();
+            size_t bytes = taken(call) - taken(nothing);
+            most = bytes > most ? bytes : most;
+        }
+    return most;
+}
+
 int main(int count, char **arguments)
 {
     static const struct {
         const char *name;
-        void (*wires)(void);
-    } shapes[] = {{"chain", chain}, {"side by side", beside}, {"ladder", ladder}};
+        void (*call)(void);
+    } calls[] = {{"best increases", best_increases},
+                 {"slacks", slacks},
+                 {"curve", curve},
+                 {"judge", judge},
+                 {"fewest ticks", fewest_ticks}};
     size_t most = count == 2 ? strtoul(arguments[1], NULL, 10) : 0;
     int right = 1;
-    for (edition = 1; edition <= 3; edition++)
-        for (size_t i = 0; i < sizeof shapes / sizeof shapes[0]; i++) {
-            put_gates();
-            shapes[i].wires();
-            size_t bytes = taken(call) - taken(nothing);
-            printf("stack: %s, edition %d, %s of %d gates takes %zu bytes\n", call_name, edition, shapes[i].name, GATES, bytes);
-            right = right && bytes <= most;
-        }
+    printf("stack: the most bytes on %d gates in a chain, side by side and in a ladder, editions 1 to 3", GATES);
+    for (size_t i = 0; i < sizeof calls / sizeof calls[0]; i++) {
+        size_t bytes = most_taken(calls[i].call);
+        printf("%s %s %zu", i == 0 ? ":" : ",", calls[i].name, bytes);
+        right = right && bytes <= most;
+    }
+    puts("");
     if (!right)
         printf("stack: more than %zu bytes\n", most);
     return right ? 0 : 1;

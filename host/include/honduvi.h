@@ -1,4 +1,4 @@
-/* The layout editor's call: the best increases of a block file. Link with liblayout.a (x86-64). */
+/* The library's calls on a block file. Link with liblayout.a (x86-64). docs/FORMAT.md has the file's bytes. */
 
 #ifndef HONDUVI_H
 #define HONDUVI_H
@@ -10,8 +10,15 @@
 extern "C" {
 #endif
 
-/* number 0: accepted; place is the gate count n, saving is what the increases save.
-   number 1 to 12: refused; place says where, saving is 0.
+/* Every call reads the block file of file_len bytes, of edition 1, 2 or 3, and returns its answer by value. number 0:
+   accepted. Any other number: refused; place says where, all else in the answer is 0, and no lent element is changed. A call
+   that gets several refusals returns the first of its line:
+
+     best increases  1 to 9, 10, 11, 12
+     slacks          1 to 9, 10
+     curve           1 to 9, 10, 11
+     judge           1 to 9, 10, 13, 14
+     fewest ticks    1 to 9, 11, 17
 
     1  place: byte offset   a due block or gate field is missing, or a header or body passes the end
     2  place: byte offset   the tag is not the one due
@@ -22,25 +29,66 @@ extern "C" {
     7  place: byte offset   a byte follows the 256th wire
     8  place: lowest gate on a loop
     9  place: lowest gate with a wire where it must have none, or none where it must have one
-   10  place: 4n            increases_len is below 4n
+   10  place: length due   a lent area is shorter than 4n bytes (best increases), n elements (slacks, judge) or 512 elements
+                           (either of the curve's); n is the gate count
    11  place: lowest gate left, other than 0 and n - 1, when gates with one wire in and one wire out are taken away,
               joining the two wires, and doubled wires merged, until neither applies; the block is not series-parallel
-   12  place: 0             the block is late: even without increases a path misses the deadline */
+   12  place: 0             the block is late: even without increases a path misses the deadline
+   13  place: lowest gate whose increase exceeds the sum of its widths
+   14  place: 0             with the increases a path misses the deadline
+   17  place: 0             no number of spare ticks reaches the wanted saving
+
+   Memory: file_len is in bytes, every other length in elements of the pointer's type. A null pointer is allowed with length 0
+   only. Pointers to int32_t and uint32_t are aligned to 4 bytes. The areas of one call may not overlap. A call writes what is
+   said of it below and nothing else; it keeps nothing, allocates nothing and always returns. 64 KiB of stack are enough, by
+   measurement. */
+
+/* best increases: place n, the saving. slacks: place n, saving 0. judge: place 0, the saving. */
 typedef struct {
     uint32_t number;
     uint32_t place;
     uint64_t saving;
 } honduvi_answer;
 
-/* Reads the block file of file_len bytes, of edition 1, 2 or 3. From edition 2 on each wire has a delay. In edition 3 the
-   number that the file gives for the switching of the input, and of each gate's output, is its measured activity,
-   transitions in 65,536 clock cycles, 0 to 65,535; up to edition 2 it is the probability p of a 1 in 256ths, and the
-   activity is 2p(256 - p). If the file is accepted, the first 4n bytes of increases hold the best list: four bytes for each
-   gate in order, high byte first. Of lists that save as much, the best is the one with the smaller increase at the highest
-   gate at which they differ. The bytes beyond are unchanged, and all of them are if it is refused. 256 bytes are enough for
-   every block. A null pointer is allowed with length 0 only. The two areas may not overlap. The call keeps nothing,
-   allocates nothing and always returns. */
+/* place 0; start, how many pairs were written, and the saving at start. */
+typedef struct {
+    uint32_t number;
+    uint32_t place;
+    uint32_t start;
+    uint32_t pairs;
+    uint64_t at_start;
+} honduvi_curve_answer;
+
+/* place 0; the ticks. */
+typedef struct {
+    uint32_t number;
+    uint32_t place;
+    uint64_t ticks;
+} honduvi_ticks_answer;
+
+/* The best increases of the block's gates and what they save. Writes 4n bytes: four for each gate in order, high byte first.
+   Of lists that save as much, the best is the one with the smaller increase at the highest gate at which they differ. 256
+   bytes are enough for every block. */
 honduvi_answer honduvi_best_increases(const uint8_t *file, size_t file_len, uint8_t *increases, size_t increases_len);
+
+/* The slacks of the gates before increases, negative where a path through the gate is late. Writes n elements. 64 elements
+   are enough for every block. The block need not be series-parallel. */
+honduvi_answer honduvi_slacks(const uint8_t *file, size_t file_len, int32_t *slacks, size_t slacks_len);
+
+/* The saving curve: with 0 spare ticks the best list saves at_start; of the ticks beyond, the first widths[0] save gains[0]
+   each, the next widths[1] save gains[1] each, and so on; more ticks save nothing. Gains fall strictly. start is how long the
+   longest path lasts without increases; the block's own arrival and deadline play no part. Writes `pairs` elements to each
+   area, 512 at most. Both need 512 elements. */
+honduvi_curve_answer honduvi_curve(const uint8_t *file, size_t file_len, uint32_t *widths, size_t widths_len,
+                                   uint32_t *gains, size_t gains_len);
+
+/* The verdict on a list of increases, one for each gate, and what it saves. Reads n elements, of any value; those beyond play
+   no part. Writes nothing. The block need not be series-parallel. */
+honduvi_answer honduvi_judge(const uint8_t *file, size_t file_len, const uint32_t *increases, size_t increases_len);
+
+/* The fewest spare ticks with which some list saves at least `wanted`. The block's own arrival and deadline play no part.
+   Writes nothing. */
+honduvi_ticks_answer honduvi_fewest_ticks(const uint8_t *file, size_t file_len, uint64_t wanted);
 
 #ifdef __cplusplus
 }

@@ -9,7 +9,7 @@ use crate::{exact, network, parts, timing};
 pub const MAX_PAIRS: usize = 512;
 
 /// The fewest ticks for one wanted saving (document 02, K6), or the refusal.
-pub type TicksAnswer = Result<u64, Refusal>;
+pub type FewestTicks = Result<u64, Refusal>;
 
 /// What the three calls that write to lent slices answer for one file.
 #[derive(Clone, Debug, PartialEq, Eq)]
@@ -55,7 +55,7 @@ pub fn curve(file: &[u8], lent_widths: usize, lent_gains: usize) -> Result<Curve
 
 /// The first number of ticks, counted off the curve, that earns the wanted saving, by halving the range that it lies in; 17 where
 /// the whole curve earns less.
-pub fn fewest_on(curve: &Curve, wanted: u64) -> TicksAnswer {
+pub fn fewest_on(curve: &Curve, wanted: u64) -> FewestTicks {
     let (mut least, mut most) = (0, curve.ticks());
     if curve.counted_off(most) < wanted {
         return refuse(17, 0);
@@ -73,7 +73,7 @@ pub fn fewest_on(curve: &Curve, wanted: u64) -> TicksAnswer {
 
 /// The fewest spare ticks, in place of the file's own, with which some list saves at least the wanted (document 02, K6). Only the
 /// file is lent, so there is no 10, and the block's own arrival and deadline play no part, so there is no 12.
-pub fn fewest_ticks(file: &[u8], wanted: u64) -> TicksAnswer {
+pub fn fewest_ticks(file: &[u8], wanted: u64) -> FewestTicks {
     let curve = curve(file, MAX_PAIRS, MAX_PAIRS)?;
     fewest_on(&curve, wanted)
 }

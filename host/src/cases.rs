@@ -3,7 +3,7 @@
 mod groups;
 mod ticks;
 
-use crate::answers::{self, Answers, TicksAnswer, MAX_PAIRS};
+use crate::answers::{self, Answers, FewestTicks, MAX_PAIRS};
 use crate::block::{decode, encode, Block, Refusal, MAX_GATES};
 use crate::finer::{scaled_answers, scaled_ticks};
 use crate::generate::ties::has_ties;
@@ -70,7 +70,8 @@ impl Case {
 
     /// Whether a best list is given that the order of ties decides.
     pub fn has_ties(&self) -> bool {
-        answers::best_increases(&self.file, self.lent).is_ok() && decode(&self.file).is_ok_and(|block| has_ties(&block))
+        let given = answers::best_increases(&self.file, self.lent).is_ok();
+        given && has_ties(&decode(&self.file).expect("a block"))
     }
 
     /// The record that the program reads.
@@ -98,7 +99,7 @@ impl Case {
     }
 
     /// The lines that the program prints for it with these answers, but for the number.
-    fn printed(&self, answers: &Answers, ticks: &[TicksAnswer]) -> String {
+    fn printed(&self, answers: &Answers, ticks: &[FewestTicks]) -> String {
         let mut text = first_lines(answers);
         let words = ["ticks".to_string()].into_iter().chain(ticks.iter().map(number_or_refusal));
         writeln!(text, "{}", joined(&words.collect::<Vec<_>>())).unwrap();
@@ -168,7 +169,7 @@ fn first_lines(answers: &Answers) -> String {
 pub fn written(cases: &[Case]) -> (Vec<u8>, String) {
     let mut input = Vec::new();
     let mut output = String::new();
-    let mut done: Vec<(Answers, Vec<TicksAnswer>, String)> = Vec::new();
+    let mut done: Vec<(Answers, Vec<FewestTicks>, String)> = Vec::new();
     for (number, case) in cases.iter().enumerate() {
         let (answers, ticks) = (case.answers(), ticks::fewest(&case.file, &case.wanted));
         let printed = case.printed(&answers, &ticks);
@@ -207,10 +208,10 @@ pub fn ticks_and_17(output: &str) -> (usize, usize) {
 pub fn search_agrees(cases: &[Case]) -> usize {
     let mut count = 0;
     for case in cases.iter().filter(|case| case.twin_of.is_none()) {
-        let Ok(block) = answers::well_formed(&case.file) else { continue };
-        if search::count_of_lists(&block) > MOST_LISTS || block.wires.len() > MOST_WIRES {
-            continue;
-        }
+        let block = match answers::well_formed(&case.file) {
+            Ok(block) if search::count_of_lists(&block) <= MOST_LISTS && block.wires.len() <= MOST_WIRES => block,
+            _ => continue,
+        };
         let series_parallel = parts::built_up(&block);
         let best = answers::best_increases(&case.file, MAX_GATES);
         assert_eq!(best.ok(), search::best(&block).filter(|_| series_parallel));

@@ -1,7 +1,7 @@
 //! The same block in finer ticks (document 02, K14): what was one tick is m ticks. Every time of the block is m times the old
 //! one, and so is every answer that is a time or a saving; what a tick gains stays.
 
-use crate::answers::{check_parts, Answers, TicksAnswer};
+use crate::answers::{check_parts, Answers, FewestTicks};
 use crate::block::{refuse, Block, MAX_DELAY, MAX_TIME, MAX_WIDTH, MAX_WIRE_DELAY};
 use crate::search::{self, Best, Curve};
 use crate::{exact, timing};
@@ -53,9 +53,9 @@ pub fn scaled_answers(answers: &Answers, m: u32) -> Answers {
 /// before, which some number of ticks earns exactly, and then are m times as much, or which are one more, and then one more than m
 /// times as much. What is earned exactly needs m times the ticks, and one more needs the first of the m ticks in place of the
 /// last one.
-pub fn scaled_ticks(wanted: &[u64], ticks: &[TicksAnswer], finer: &[u64], m: u32) -> Vec<TicksAnswer> {
+pub fn scaled_ticks(wanted: &[u64], ticks: &[FewestTicks], finer: &[u64], m: u32) -> Vec<FewestTicks> {
     let m = u64::from(m);
-    let scaled = |((&wanted, ticks), &finer): ((&u64, &TicksAnswer), &u64)| {
+    let scaled = |((&wanted, ticks), &finer): ((&u64, &FewestTicks), &u64)| {
         ticks.map(|ticks| if finer == m * wanted { m * ticks } else { m * (ticks - 1) + 1 })
     };
     wanted.iter().zip(ticks).zip(finer).map(scaled).collect()

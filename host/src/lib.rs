@@ -3,6 +3,7 @@
 
 pub mod answers;
 pub mod apart;
+pub mod arguments;
 pub mod block;
 pub mod boundaries;
 pub mod cases;
@@ -10,6 +11,7 @@ pub mod compare;
 pub mod damage;
 pub mod edition;
 pub mod exact;
+pub mod ffi;
 pub mod finer;
 pub mod generate;
 pub mod measure;

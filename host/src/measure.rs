@@ -6,7 +6,7 @@ use crate::generate::editions::in_edition_3;
 use crate::generate::{benchmark_block, benchmark_with_delays};
 use crate::random::Random;
 use crate::shapes::{wires, Shape};
-use std::hint::black_box;
+use std::mem::ManuallyDrop;
 use std::time::{Duration, Instant};
 
 const BLOCKS: usize = 40;
@@ -28,11 +28,18 @@ impl Times {
     }
 }
 
+/// The same value, of which the compiler knows nothing, so that no work on it is left out.
+pub fn kept<T>(value: T) -> T {
+    let value = ManuallyDrop::new(value);
+    // SAFETY: it is read once, and what it is read from is not dropped.
+    unsafe { std::ptr::read_volatile(&*value) }
+}
+
 /// Microseconds for each call of one round.
 fn average<T>(files: &[T], mut call: impl FnMut(&T)) -> f64 {
     let begin = Instant::now();
     for file in files {
-        call(black_box(file));
+        call(kept(file));
     }
     begin.elapsed().as_secs_f64() * 1e6 / files.len() as f64
 }

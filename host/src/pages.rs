@@ -1,6 +1,8 @@
 //! Memory that ends where the next page may not be touched, so that one byte read or written too far ends the run.
 
-use std::ffi::{c_int, c_void};
+use reference::compare::memory::Element;
+use std::mem::size_of;
+use std::os::raw::{c_int, c_void};
 
 extern "C" {
     fn mmap(at: *mut c_void, length: usize, protection: c_int, flags: c_int, file: c_int, offset: i64) -> *mut c_void;
@@ -22,31 +24,45 @@ impl Pages {
     pub fn reserve() -> Pages {
         // SAFETY: a fresh mapping of this process; its last page is closed.
         unsafe {
-            let start = mmap(std::ptr::null_mut(), 3 * PAGE, READ_AND_WRITE, PRIVATE_WITHOUT_FILE, -1, 0);
+            let start: *mut u8 =
+                mmap(std::ptr::null_mut(), 3 * PAGE, READ_AND_WRITE, PRIVATE_WITHOUT_FILE, -1, 0).cast();
             assert!(start as isize != -1, "no memory");
-            assert_eq!(mprotect(start.add(2 * PAGE), PAGE, NOTHING), 0);
-            Pages { start: start.cast() }
+            assert_eq!(mprotect(start.add(2 * PAGE).cast(), PAGE, NOTHING), 0);
+            Pages { start }
         }
     }
 
-    /// Opens or closes the two pages for writing.
-    pub fn writable(&mut self, writable: bool) {
+    fn protect(&mut self, protection: c_int) {
         // SAFETY: the first two pages of the mapping.
-        let result = unsafe { mprotect(self.start.cast(), 2 * PAGE, if writable { READ_AND_WRITE } else { READ }) };
-        assert_eq!(result, 0);
+        assert_eq!(unsafe { mprotect(self.start.cast(), 2 * PAGE, protection) }, 0);
     }
 
-    /// The last bytes before the closed page. The pages must be open for writing.
-    pub fn last_bytes(&mut self, length: usize) -> &mut [u8] {
-        assert!(length <= 2 * PAGE);
-        // SAFETY: within the first two pages, borrowed as long as the slice lives.
-        unsafe { std::slice::from_raw_parts_mut(self.start.add(2 * PAGE - length), length) }
+    /// The elements, moved to the end of the pages, which are open for writing.
+    fn moved<T: Element>(&mut self, elements: &[T]) -> &mut [T] {
+        let bytes = elements.len() * size_of::<T>();
+        assert!(bytes <= 2 * PAGE);
+        self.protect(READ_AND_WRITE);
+        // SAFETY: within the first two pages, borrowed as long as the slice lives. Any bytes are elements, and a page's end is a
+        // multiple of their size.
+        let moved =
+            unsafe { std::slice::from_raw_parts_mut(self.start.add(2 * PAGE - bytes).cast::<T>(), elements.len()) };
+        moved.copy_from_slice(elements);
+        moved
     }
 
-    /// The same, to be read only.
-    pub fn last_bytes_read(&self, length: usize) -> &[u8] {
-        assert!(length <= 2 * PAGE);
+    /// The same elements in pages that may be read only.
+    pub fn show<T: Element>(&mut self, elements: &[T]) -> &[T] {
+        let (shown, count) = (self.moved(elements).as_ptr(), elements.len());
+        self.protect(READ);
         // SAFETY: as above.
-        unsafe { std::slice::from_raw_parts(self.start.add(2 * PAGE - length), length) }
+        unsafe { std::slice::from_raw_parts(shown, count) }
+    }
+
+    /// A call on the elements in pages; afterwards they are as it left them there.
+    pub fn lend<T: Element, A>(&mut self, elements: &mut [T], call: impl FnOnce(&mut [T]) -> A) -> A {
+        let moved = self.moved(elements);
+        let answer = call(moved);
+        elements.copy_from_slice(moved);
+        answer
     }
 }

@@ -72,9 +72,10 @@ pub fn reduces(block: &Block) -> bool {
     }
     let mut wires: HashSet<Ends> = block.wires.iter().map(|w| w.ends()).collect();
     let mut left: Vec<usize> = (1..n - 1).collect();
-    loop {
-        let joined = left.iter().enumerate().find_map(|(i, &g)| Some((i, only_wires(&wires, g)?)));
-        let Some((i, (wire_in, wire_out))) = joined else { break };
+    let taken = |left: &[usize], wires: &HashSet<Ends>| {
+        left.iter().enumerate().find_map(|(i, &g)| Some((i, only_wires(wires, g)?)))
+    };
+    while let Some((i, (wire_in, wire_out))) = taken(&left, &wires) {
         left.remove(i);
         wires.remove(&wire_in);
         wires.remove(&wire_out);

@@ -1,120 +1,18 @@
-//! The text form of a block file. host/README.md describes the syntax.
+//! A block in words. host/README.md describes the syntax.
 
-mod words;
-
-use crate::block::{decode, Block, Gate, Refusal, MAX_DELAY, MAX_GATES, MAX_TIME, MAX_WIRES};
-use crate::edition::{is_measured, max_switching};
+use crate::block::{decode, Block};
+use crate::edition::is_measured;
 use std::fmt::Write;
-pub use words::Fault;
-use words::{fault, switching_word, Words, UNSAID_EDITIONS};
 
-/// A description that is being read: the block so far, the edition that its block line says, and the line of each wire.
-struct Reading {
-    block: Option<Block>,
-    edition: Option<u8>,
-    wire_lines: Vec<usize>,
-}
+/// The editions that a block line can leave unsaid: the first with probabilities and the first with measured activities.
+const UNSAID_EDITIONS: [u8; 2] = [1, 3];
 
-impl Reading {
-    fn begun(&mut self, line: usize) -> Result<&mut Block, Fault> {
-        match &mut self.block {
-            Some(block) => Ok(block),
-            None => fault(line, "the block line must come first".to_string()),
-        }
-    }
-
-    fn block_line(&mut self, words: &mut Words) -> Result<(), Fault> {
-        if self.block.is_some() {
-            return fault(words.line, "a second block line".to_string());
-        }
-        let arrival = words.named("arrival", MAX_TIME)?;
-        let deadline = words.named("deadline", MAX_TIME)?;
-        let unsaid = words.switching()?;
-        let word = switching_word(unsaid);
-        let switching = words.number_after(word, max_switching(unsaid))?;
-        self.edition = words.edition()?;
-        let edition = self.edition.unwrap_or(unsaid);
-        if is_measured(edition) != is_measured(unsaid) {
-            return fault(words.line, format!("the block line has '{word}', but says edition {edition}"));
-        }
-        self.block = Some(Block { edition, arrival, deadline, switching, gates: Vec::new(), wires: Vec::new() });
-        Ok(())
-    }
-
-    fn gate_line(&mut self, words: &mut Words) -> Result<(), Fault> {
-        let line = words.line;
-        let block = self.begun(line)?;
-        let due = block.gates.len();
-        if !block.wires.is_empty() {
-            return fault(line, "gates must come before wires".to_string());
-        }
-        if due == MAX_GATES {
-            return fault(line, format!("more than {MAX_GATES} gates"));
-        }
-        let word = words.word("the gate's number")?;
-        if words.number("gate", word, 0, u32::MAX)? as usize != due {
-            return fault(line, format!("gate {due} is due here, not gate {word}"));
-        }
-        let delay = words.named("delay", MAX_DELAY)?;
-        let (found, right) = (switching_word(words.switching()?), switching_word(block.edition));
-        if found != right {
-            return fault(line, format!("gate {due} has '{found}', but the block line has '{right}'"));
-        }
-        let switching = words.number_after(right, max_switching(block.edition))?;
-        let steps = match words.next() {
-            None => Vec::new(),
-            Some("steps") => words.steps()?,
-            Some(word) => return fault(line, format!("'steps' or the end of the line was expected, not '{word}'")),
-        };
-        block.gates.push(Gate { delay, switching, steps });
-        Ok(())
-    }
-
-    fn wires_line(&mut self, words: &mut Words) -> Result<(), Fault> {
-        let (line, stated) = (words.line, self.edition);
-        while let Some(word) = words.next() {
-            let block = self.begun(line)?;
-            let (wire, has_delay) = words.wire(word, block.gates.len())?;
-            let (from, to) = wire.ends();
-            match (has_delay, stated) {
-                (true, Some(1)) => {
-                    return fault(line, format!("wire {word} has a delay, but the block line says edition 1"))
-                }
-                (true, None) => block.edition = block.edition.max(2),
-                _ => {}
-            }
-            if let Some(before) = block.wires.iter().position(|w| w.ends() == wire.ends()) {
-                return fault(line, format!("wire {from}-{to} stood before, in line {}", self.wire_lines[before]));
-            }
-            if block.wires.len() == MAX_WIRES {
-                return fault(line, format!("more than {MAX_WIRES} wires"));
-            }
-            block.wires.push(wire);
-            self.wire_lines.push(line);
-        }
-        Ok(())
-    }
-}
-
-/// The block that a description says.
-pub fn read(text: &str) -> Result<Block, Fault> {
-    let mut reading = Reading { block: None, edition: None, wire_lines: Vec::new() };
-    let mut line = 0;
-    for content in text.lines() {
-        line += 1;
-        let mut words = Words::of(line, content);
-        match words.next() {
-            None => {}
-            Some("block") => reading.block_line(&mut words)?,
-            Some("gate") => reading.gate_line(&mut words)?,
-            Some("wires") => reading.wires_line(&mut words)?,
-            Some(word) => return fault(line, format!("'block', 'gate' or 'wires' was expected, not '{word}'")),
-        }
-    }
-    match reading.block {
-        None => fault(line, "there is no block line".to_string()),
-        Some(block) if block.gates.is_empty() => fault(line, "there is no gate".to_string()),
-        Some(block) => Ok(block),
+/// The word before the number that an edition gives for the switching of a net.
+fn switching_word(edition: u8) -> &'static str {
+    if is_measured(edition) {
+        "activity"
+    } else {
+        "p"
     }
 }
 
@@ -155,20 +53,33 @@ pub fn shown(file: &[u8]) -> String {
     }
 }
 
-/// A refusal of a block file, in words.
-pub fn explain(refusal: Refusal) -> String {
-    let reason = match refusal.number {
-        1 => "a due block or gate field is missing, or a header or body passes the end",
-        2 => "the tag is not the one due",
-        3 => "the length is not one of that tag's",
-        4 => "a number is out of its range",
-        5 => "drops do not fall strictly",
-        6 => "a wire joins a gate to itself, or stood before",
-        7 => "a byte follows the 256th wire",
-        _ => "the block cannot be used",
-    };
-    format!("refused {} {}: {} (field at byte {})", refusal.number, refusal.place, reason, refusal.place)
-}
-
 #[cfg(test)]
-mod tests;
+mod tests {
+    use super::*;
+    use crate::worked::{delayed_diamond, diamond, edition_3::measured};
+
+    const GATES: &str = "gate 0 delay 2 p 128\ngate 1 delay 3 p 128 steps (2,5) (3,2)\n\
+        gate 2 delay 1 p 128 steps (4,4)\ngate 3 delay 2 p 128 steps (5,6)\n";
+
+    #[test]
+    fn descriptions_by_hand() {
+        let of_edition_1 = format!("block arrival 0 deadline 10 p 128\n{GATES}wires 0-1 0-2 1-3 2-3\n");
+        assert_eq!(write(&diamond(10)), of_edition_1);
+        let of_edition_2 = format!("block arrival 0 deadline 12 p 128 edition 2\n{GATES}wires 0-1:1 0-2 1-3 2-3:2\n");
+        assert_eq!(write(&delayed_diamond([1, 0, 0, 2])), of_edition_2);
+        let of_edition_3 = of_edition_1.replace("p 128", "activity 300");
+        assert_eq!(write(&measured(diamond(10), [300; 5])), of_edition_3);
+    }
+
+    #[test]
+    fn ten_wires_stand_in_a_line() {
+        let mut block = diamond(10);
+        block.wires = (1..=11).map(|to| crate::block::Wire::without_delay(0, to)).collect();
+        assert!(write(&block).ends_with("wires 0-1 0-2 0-3 0-4 0-5 0-6 0-7 0-8 0-9 0-10\nwires 0-11\n"));
+    }
+
+    #[test]
+    fn a_file_without_a_description_is_shown_by_its_bytes() {
+        assert_eq!(shown(&[1, 0]), "the file of the bytes [1, 0]");
+    }
+}

@@ -8,9 +8,8 @@ pub mod finer;
 pub mod ticks;
 pub mod ties;
 
-use crate::block::{encode, Block};
+use crate::block::{encode, Block, Gate, Step, Wire};
 use crate::generate::editions::delay_wires;
-use crate::text;
 
 /// A wire's activity where p is 128.
 pub const U: u64 = 32_768;
@@ -52,54 +51,73 @@ fn worked(name: &'static str, file: Vec<u8>, expected: Vec<Expected>) -> Worked 
     Worked { name, file, expected }
 }
 
-fn file(description: &str) -> Vec<u8> {
-    encode(&text::read(description).expect("a description of document 01"))
+/// A gate by its delay and its steps of width and drop.
+type Drawn<'a> = (u32, &'a [(u32, u32)]);
+
+/// The wires of a diamond: gates 1 and 2 side by side between gates 0 and 3.
+const DIAMOND: [(usize, usize); 4] = [(0, 1), (0, 2), (1, 3), (2, 3)];
+
+/// The wires of a bridge: a diamond and a wire across.
+const BRIDGE: [(usize, usize); 5] = [(0, 1), (0, 2), (1, 2), (1, 3), (2, 3)];
+
+/// A block of edition 1 from arrival 0 on, with p 128 throughout.
+fn drawn(deadline: u32, gates: &[Drawn], wires: &[(usize, usize)]) -> Block {
+    let gate = |&(delay, steps): &Drawn| {
+        let steps = steps.iter().map(|&(width, drop)| Step { width, drop }).collect();
+        Gate { delay, switching: 128, steps }
+    };
+    let wires = wires.iter().map(|&(from, to)| Wire::without_delay(from, to)).collect();
+    Block { edition: 1, arrival: 0, deadline, switching: 128, gates: gates.iter().map(gate).collect(), wires }
 }
 
-/// Diamond D.
-pub fn diamond(deadline: u32) -> Block {
-    let mut block = text::read(include_str!("../../examples/diamond.text")).expect("the diamond");
-    block.deadline = deadline;
-    block
-}
-
-/// Diamond D in edition 2 with these delays of its wires 0-1, 0-2, 1-3 and 2-3, and deadline 12.
-pub fn delayed_diamond(delays: [u32; 4]) -> Block {
-    let mut block = diamond(12);
+/// The block in edition 2 with these delays of its wires.
+fn delayed(mut block: Block, delays: impl IntoIterator<Item = u32>) -> Block {
     delay_wires(&mut block, delays);
     block
 }
 
+/// Diamond D.
+pub fn diamond(deadline: u32) -> Block {
+    drawn(deadline, &[(2, &[]), (3, &[(2, 5), (3, 2)]), (1, &[(4, 4)]), (2, &[(5, 6)])], &DIAMOND)
+}
+
+/// Diamond D in edition 2 with these delays of its wires 0-1, 0-2, 1-3 and 2-3, and deadline 12.
+pub fn delayed_diamond(delays: [u32; 4]) -> Block {
+    delayed(diamond(12), delays)
+}
+
+/// The steps of 001's two gates.
+const FIRST: &[(u32, u32)] = &[(3, 28), (5, 24), (3, 21)];
+const SECOND: &[(u32, u32)] = &[(2, 24), (4, 23)];
+
 /// 001's parallel gates, 4 ticks to spare.
 pub fn paper_parallel() -> Block {
-    text::read(include_str!("../../examples/parallel.text")).expect("the parallel gates")
+    drawn(7, &[(0, &[]), (3, FIRST), (2, SECOND), (0, &[])], &DIAMOND)
 }
 
 /// 001's chain with so many ticks to spare.
 pub fn paper_chain(spare: u32) -> Block {
-    let mut block = text::read(include_str!("../../examples/chain.text")).expect("the chain");
-    block.deadline = spare;
-    block
+    drawn(spare, &[(0, FIRST), (0, SECOND), (0, &[(9, 26)])], &[(0, 1), (1, 2)])
 }
 
-/// Two gates in parallel between stepless gates of delay 0; each given by delay and steps.
-fn frame(one: &str, other: &str) -> Vec<u8> {
-    file(&format!(
-        "block arrival 0 deadline 99 p 128\ngate 0 delay 0 p 128\ngate 1 {one}\ngate 2 {other}\ngate 3 delay 0 p 128\nwires 0-1 0-2 1-3 2-3\n"
-    ))
+/// Two gates in parallel between stepless gates of delay 0.
+fn frame(one: Drawn, other: Drawn) -> Vec<u8> {
+    encode(&drawn(99, &[(0, &[]), one, other, (0, &[])], &DIAMOND))
 }
 
-/// The chain of two, with the wire given in words.
-fn chain_of_two(deadline: u32, wire: &str) -> Vec<u8> {
-    file(&format!(
-        "block arrival 0 deadline {deadline} p 128\ngate 0 delay 1 p 128 steps (4,3)\ngate 1 delay 1 p 128 steps (4,3)\nwires {wire}\n"
-    ))
+/// One gate.
+fn lone_gate(deadline: u32) -> Block {
+    drawn(deadline, &[(5, &[(2, 3)])], &[])
+}
+
+/// The chain of two.
+fn chain_of_two(deadline: u32) -> Block {
+    drawn(deadline, &[(1, &[(4, 3)]), (1, &[(4, 3)])], &[(0, 1)])
 }
 
 /// Gates without delay and steps, and these wires.
-fn only_wires(gates: usize, wires: &str) -> Vec<u8> {
-    let lines: String = (0..gates).map(|g| format!("gate {g} delay 0 p 128\n")).collect();
-    file(&format!("block arrival 0 deadline 9 p 128\n{lines}wires {wires}\n"))
+fn only_wires(gates: usize, wires: &[(usize, usize)]) -> Vec<u8> {
+    encode(&drawn(9, &vec![(0, &[][..]); gates], wires))
 }
 
 fn diamonds() -> Vec<Worked> {
@@ -126,8 +144,6 @@ fn diamonds() -> Vec<Worked> {
 
 fn paper() -> Vec<Worked> {
     use Expected::*;
-    let first = "delay 3 p 128 steps (3,28) (5,24) (3,21)";
-    let second = "delay 2 p 128 steps (2,24) (4,23)";
     vec![
         worked(
             "001's chain",
@@ -136,12 +152,12 @@ fn paper() -> Vec<Worked> {
         ),
         worked(
             "001's parallel gates",
-            frame(first, second),
+            frame((3, FIRST), (2, SECOND)),
             vec![Curve(3, 24 * U, &[(1, 52 * U), (2, 51 * U), (2, 47 * U), (3, 24 * U), (3, 21 * U)])],
         ),
         worked(
             "the same frame, delays 9 and 1",
-            frame("delay 9 p 128", "delay 1 p 128 steps (3,4)"),
+            frame((9, &[]), (1, &[(3, 4)])),
             vec![AtStart(12 * U), Best(&[0, 0, 3, 0], 12 * U)],
         ),
     ]
@@ -157,7 +173,7 @@ fn delayed_diamonds() -> Vec<Worked> {
     vec![
         worked(
             "D with wire delays 1 0 0 2",
-            file(include_str!("../../examples/delays.text")),
+            encode(&delayed_diamond([1, 0, 0, 2])),
             vec![
                 Best(&[0, 0, 1, 4], 52 * U),
                 Curve(8, 4 * U, &[(5, 12 * U), (2, 9 * U), (1, 6 * U), (2, 2 * U)]),
@@ -185,24 +201,24 @@ fn delayed_diamonds() -> Vec<Worked> {
 /// Wire delays between gates in series, and beside one.
 fn delayed_wires() -> Vec<Worked> {
     use Expected::*;
-    let beside = "block arrival 0 deadline 6 p 128\ngate 0 delay 1 p 128\ngate 1 delay 1 p 128 steps (4,3)\n\
-        gate 2 delay 1 p 128\nwires 0-1 1-2 0-2:4\n";
+    let beside = drawn(6, &[(1, &[]), (1, &[(4, 3)]), (1, &[])], &[(0, 1), (1, 2), (0, 2)]);
+    let chain = |deadline, delay| encode(&delayed(chain_of_two(deadline), [delay]));
     let exact = "gates 2 wires 1\nstart 5 spare 0\nsaving 0\n0 1 0 0\n1 1 0 0\n";
     vec![
-        worked("chain of two, deadline 8, wire delay 3", chain_of_two(8, "0-1:3"), vec![Best(&[3, 0], 9 * U)]),
+        worked("chain of two, deadline 8, wire delay 3", chain(8, 3), vec![Best(&[3, 0], 9 * U)]),
         worked(
             "chain of two with spare 0 by its wire delay",
-            chain_of_two(5, "0-1:3"),
+            chain(5, 3),
             vec![Best(&[0, 0], 0), NotJudged(&[0, 1], 14, 0), Printed(exact)],
         ),
         worked(
             "chain of two, late by its wire delay",
-            chain_of_two(5, "0-1:4"),
+            chain(5, 4),
             vec![Refused(12, 0), NotJudged(&[0, 0], 14, 0), Printed("refused 12 0\n"), Curve(6, 0, &[(8, 3 * U)])],
         ),
         worked(
             "a slow wire beside a gate",
-            file(beside),
+            encode(&delayed(beside, [0, 0, 4])),
             vec![SeriesParallel, Best(&[0, 3, 0], 9 * U), Curve(6, 9 * U, &[(1, 3 * U)])],
         ),
     ]
@@ -229,17 +245,17 @@ pub fn all() -> Vec<Worked> {
 /// Every block of document 01's list with its answers; the limits of the list's last line stand among the boundaries.
 pub fn edition_1() -> Vec<Worked> {
     use Expected::*;
-    let lone = "block arrival 0 deadline 8 p 128\ngate 0 delay 5 p 128 steps (2,3)\n";
-    let still = "block arrival 0 deadline 8 p 0\ngate 0 delay 1 p 128 steps (4,9)\ngate 1 delay 1 p 128 steps (4,1)\nwires 0-1\n";
+    let still = Block { switching: 0, ..drawn(8, &[(1, &[(4, 9)]), (1, &[(4, 1)])], &[(0, 1)]) };
+    let chain = |deadline| encode(&chain_of_two(deadline));
     let mut all = vec![worked("empty file", Vec::new(), vec![Refused(1, 0), Printed("refused 1 0\n")])];
     all.extend(diamonds());
-    all.push(worked("one gate", file(lone), vec![Best(&[2], 6 * U)]));
-    all.push(worked("chain of two, deadline 5", chain_of_two(5, "0-1"), vec![Best(&[3, 0], 9 * U)]));
-    all.push(worked("chain of two, deadline 8", chain_of_two(8, "0-1"), vec![Best(&[4, 2], 18 * U)]));
-    let bridge = only_wires(4, "0-1 0-2 1-2 1-3 2-3");
+    all.push(worked("one gate", encode(&lone_gate(8)), vec![Best(&[2], 6 * U)]));
+    all.push(worked("chain of two, deadline 5", chain(5), vec![Best(&[3, 0], 9 * U)]));
+    all.push(worked("chain of two, deadline 8", chain(8), vec![Best(&[4, 2], 18 * U)]));
+    let bridge = only_wires(4, &BRIDGE);
     all.push(worked("bridge", bridge, vec![Refused(11, 1), Printed("refused 11 1\n")]));
-    all.push(worked("a wire beside a chain", only_wires(3, "0-1 1-2 0-2"), vec![SeriesParallel]));
+    all.push(worked("a wire beside a chain", only_wires(3, &[(0, 1), (1, 2), (0, 2)]), vec![SeriesParallel]));
     all.extend(paper());
-    all.push(worked("p of 0 at the input", file(still), vec![Best(&[0, 4], 4 * U)]));
+    all.push(worked("p of 0 at the input", encode(&still), vec![Best(&[0, 4], 4 * U)]));
     all
 }

@@ -1,7 +1,7 @@
 -- The lines of the layout editor's call, from what loading, the room and the best increases of the block say.
 -- The idea: the lines from 11 on are those of the best increases with other memory, and an accepted list is what stands in front of the call's own list.
 -- Assumes nothing.
-use mathlib.Core.Path.{_≡_, refl, sym, _∙_, ap, subst}
+use mathlib.Core.Path.{_≡_, refl, sym, _∙_, ap}
 use mathlib.Core.List.{List, [], _∷_}
 use Prim.Native.Nat.{ℕ, _*_, _^_, _<_, _≤_}
 use native.Mathlib.Omega.{arith}
@@ -15,31 +15,23 @@ use Rattle.model.specs.Block.{Block, gate-count}
 use Rattle.model.specs.Gain.{saving}
 use Rattle.model.specs.Best.{Best}
 use Rattle.model.specs.Refusal.{IllFormed}
-use Rattle.model.specs.Answer.{Answer, accepted, refusal, refusal-answer, Outcome, fits, passes, well-formed, SizingLines, BestLines, best}
+use Rattle.model.specs.Answer.{Answer, accepted, refusal, refusal-answer, Outcome, fits, passes, well-formed, SizingLines, BestLines, GivesBest, best}
 use Rattle.model.specs.Layout.{increase-bytes, list-bytes, layout-answer, NoSavingRefused, GivesLayout, laid, AnswersLayout}
 use Rattle.model.proofs.Limited.{read-limits}
-use Rattle.model.proofs.Remainder.{remains-inside}
 use Rattle.blockfile.specs.Held.{GateArrays, WireArrays}
 use Rattle.loading.specs.Loads.{block-held, number-of, place-of}
 use Rattle.loading.specs.HeldFile.{HeldFile}
 use Rattle.loading.proofs.Held.{gates-are}
-use Rattle.loading.proofs.Refused.{refusal-numbered, refusal-is, not-refused, passed-on}
+use Rattle.loading.proofs.Refused.{refusal-is, not-refused, passed-on}
 use Rattle.laying.specs.declared.answer.LayoutAnswer.{LayoutAnswer}
 use Rattle.laying.specs.Answered.{refused-as, leaves}
+use Rattle.laying.proofs.Told.{judged-told}
+use Rattle.laying.proofs.Places.{PlaceFits, refusal-place, line-place, gives-place, at-small, eleven-small}
 
 abbrev with-memory : Answer → List ℕ → Outcome (List ℕ)
 with-memory a after = record { answer = a; memory = after }
 
 -- REFUSALS
-
--- a refusal's number and place say the refusal
-told : (x : Refusal) → layout-answer (number-of x) (place-of x) 0 ≡ refusal-answer x
-told x = let (k, p, e) = refusal-numbered x in subst (λ (a : Answer). layout-answer (a .number) (getD (a .values) 0 0) 0 ≡ a) (sym e) refl
-
-refused-leaves : (x : Refusal) (r : LayoutAnswer) (lent : List ℕ) → r ≡ refused-as (number-of x) (place-of x)
-    → leaves r lent ≡ with-memory (refusal-answer x) lent
-refused-leaves x r lent e =
-    ap (λ (a : LayoutAnswer). leaves a lent) e ∙ ap (λ (a : Answer). with-memory a lent) (told x)
 
 pub nothing-saved : {k p : ℕ} (r : LayoutAnswer) → r ≡ refused-as k p → NoSavingRefused (r .number) (r .saving)
 nothing-saved r e refused = ap (λ (a : LayoutAnswer). a .saving) e
@@ -49,7 +41,7 @@ pub loading-refused : {file lent : List ℕ} (x : Refusal) (r : LayoutAnswer)
     → IllFormed file (number-of x) (place-of x)
     → r ≡ refused-as (number-of x) (place-of x)
     → AnswersLayout file lent (leaves r lent)
-loading-refused {lent = lent} x r ill e = rw (refused-leaves x r lent e) (passed-on x ill)
+loading-refused x r ill e = judged-told x r (r .saving ∷ r .place ∷ []) e (passed-on x ill)
 
 -- THE LINES FROM 11 ON
 abbrev LayoutLines : Block → List ℕ → Outcome (List ℕ) → Type 0
@@ -77,6 +69,10 @@ in-front n y list count b e =
     let l : length y ≡ n = b .is-ok .one-each ∙ count in
     rw (e, ← l) (take-over y list)
 
+-- an accepted answer has no place
+best-given-place : {B : Block} {list : List ℕ} {o : Outcome (List ℕ)} → GivesBest B list o → PlaceFits (o .answer)
+best-given-place (best y sp b e) = gives-place e
+
 module _ {B : Block} {list after : List ℕ} where
   lines-refused : (x : Refusal) (lent : List ℕ)
       → BestLines B list (with-memory (refusal-answer x) after)
@@ -84,14 +80,6 @@ module _ {B : Block} {list after : List ℕ} where
   lines-refused x lent (fits p w e) = fits p w (same-refusal x lent e)
   lines-refused x lent (passes none (fits p w e)) = passes none (fits p w (same-refusal x lent e))
   lines-refused x lent (passes none (passes early (best y sp b e))) = refused-not-given x e
-
-  -- the place of 11 is a gate, that of 12 is 0
-  refused-place : (x : Refusal) → BestLines B list (with-memory (refusal-answer x) after) → place-of x ≤ gate-count B
-  refused-place x (fits p w e) =
-      let is = ap (λ (o : Outcome (List ℕ)). getD (o .answer .values) 0 0) e in omega (arith, remains-inside (w .1 .holds))
-  refused-place x (passes none (fits p w e)) =
-      let is = ap (λ (o : Outcome (List ℕ)). getD (o .answer .values) 0 0) e in omega (arith, w .0)
-  refused-place x (passes none (passes early (best y sp b e))) = refused-not-given x e
 
   lines-given : (n s k : ℕ) (lent : List ℕ) → gate-count B ≡ n
       → BestLines B list (with-memory (accepted (s ∷ k ∷ [])) after)
@@ -117,7 +105,7 @@ module _ {file : List ℕ} {n m arrival deadline activity : ℕ} {G : GateArrays
   -- 10: fewer bytes than four an increase
   pub no-room : (lent : List ℕ) (r : LayoutAnswer) → r ≡ refused-as 10 (increase-bytes * n) → length lent < increase-bytes * n → AnswersLayout file lent (leaves r lent)
   no-room lent r e short =
-      rw (refused-leaves (Room (increase-bytes * n)) r lent e)
+      judged-told (Room (increase-bytes * n)) r (r .saving ∷ r .place ∷ []) e
       (well-formed B (held .well) (fits (increase-bytes * n) (ap (λ (k : ℕ). increase-bytes * k) (sym count), omega (arith, count)) refl))
 
   with-room : {lent : List ℕ} {o : Outcome (List ℕ)} → increase-bytes * n ≤ length lent → LayoutLines B lent o → AnswersLayout file lent o
@@ -126,7 +114,9 @@ module _ {file : List ℕ} {n m arrival deadline activity : ℕ} {G : GateArrays
       (passes (λ (p : ℕ) (s : (p ≡ increase-bytes * gate-count B) × (length lent < increase-bytes * gate-count B)). omega (arith, s .1, count)) lines)
 
   pub best-place : {list after : List ℕ} (x : Refusal) → BestLines B list (with-memory (refusal-answer x) after) → place-of x < 2 ^ 32
-  best-place x lines = omega (arith, refused-place x lines, count, gates-most)
+  best-place x lines =
+      let most : gate-count B ≤ max-gates = omega (arith, count, gates-most) in
+      refusal-place x (line-place (eleven-small most) (line-place (at-small (omega arith)) best-given-place) lines)
 
   -- 11 and 12, as the best increases are refused
   pub best-refused : {list after : List ℕ} (x : Refusal) (r : LayoutAnswer) (lent : List ℕ)
@@ -134,7 +124,7 @@ module _ {file : List ℕ} {n m arrival deadline activity : ℕ} {G : GateArrays
       → BestLines B list (with-memory (refusal-answer x) after)
       → r ≡ refused-as (number-of x) (place-of x)
       → AnswersLayout file lent (leaves r lent)
-  best-refused x r lent room lines e = rw (refused-leaves x r lent e) (with-room room (lines-refused x lent lines))
+  best-refused x r lent room lines e = judged-told x r (r .saving ∷ r .place ∷ []) e (with-room room (lines-refused x lent lines))
 
   pub best-given : {list after : List ℕ} (s k : ℕ) (lent bytes : List ℕ)
       → increase-bytes * n ≤ length lent

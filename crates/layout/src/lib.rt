@@ -1,4 +1,9 @@
-// The layout editor's call: the best increases of a block file as bytes (C declares it in host/include/honduvi.h).
+// The calls for C, which host/include/honduvi.h declares: here the layout editor's, the best increases of a block file as bytes; in a file each the others, thin over those of `resizing`.
+pub mod curve;
+pub mod judge;
+pub mod slacks;
+pub mod ticks;
+
 use laying::answer::LayoutAnswer;
 use laying::answer::refused;
 use laying::lay_best;

@@ -171,9 +171,13 @@ AnswersCurve file lent =
     Line lent 10 (Shorter (lent .for-widths) max-pairs)
     (Line lent 10 (Shorter (lent .for-gains) max-pairs) (CurveLines B lent)))
 
--- "There are at most 512 pairs", and "a pair's gain is now at most 63 × 65,535 × 1,000" (document 02, K3): the pairs of an accepted answer, whose gains are in the slice
+-- "There are at most 512 pairs", and "a pair's gain is now at most 63 × 65,535 × 1,000" (document 02, K3): so many pairs, whose gains are in the slice
+abbrev pub PairBounds : ℕ → List ℕ → Type 0
+PairBounds pairs gains = (pairs ≤ max-pairs) × ((i : ℕ) → i < pairs → getD gains i 0 ≤ max-gain)
+
+-- the pairs of an accepted answer are within these bounds
 abbrev pub CurveBounds : Curve.CurveAnswer → List ℕ → Type 0
-CurveBounds (Curve.the-variants.Given start at-start pairs) gains = (pairs ≤ max-pairs) × ((i : ℕ) → i < pairs → getD gains i 0 ≤ max-gain)
+CurveBounds (Curve.the-variants.Given start at-start pairs) gains = PairBounds pairs gains
 CurveBounds (Curve.the-variants.Refused refusal) gains = Unit {0}
 
 -- the best list of the block in front of the slice

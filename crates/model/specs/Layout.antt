@@ -1,8 +1,9 @@
--- The layout editor's call: the best increases as bytes (document 01, "Where each language form belongs": "a byte slice with four bytes an increase"; high byte first, as in the block file).
+-- The calls for C: what the numbers that they hand back say, and the layout editor's call, the best increases as bytes (document 01, "Where each language form belongs": "a byte slice with four bytes an increase"; high byte first, as in the block file).
 use mathlib.Core.Path.{_≡_}
 use mathlib.Core.Logic.{_≢_}
 use mathlib.Core.List.{List, [], _∷_, flatMap}
 use Prim.Native.Nat.{ℕ, zero, suc, _*_, _/_, _%_}
+use lib.ListN.{getD}
 use Rattle.lists.specs.Over.{over}
 use Rattle.model.specs.Block.{Block, gate-count}
 use Rattle.model.specs.Gain.{saving}
@@ -28,10 +29,19 @@ four-bytes w =
 abbrev pub list-bytes : List ℕ → List ℕ
 list-bytes = flatMap four-bytes
 
--- The three numbers that the call hands back, as an answer. Number 0: accepted, with the saving and, in place of a place, how many increases were written; else a refusal with its place.
+-- The numbers that a call hands back to C, as an answer. Number 0: accepted, with these values; else a refusal with its place.
+abbrev pub told : ℕ → ℕ → List ℕ → Answer
+told zero place values = accepted values
+told (suc k) place values = refusal (suc k) place
+
+-- What an answer leaves unsaid is 0: an accepted one the place, a refusal the values.
+abbrev pub UnsaidZero : ℕ → ℕ → List ℕ → Type 0
+UnsaidZero zero place values = place ≡ 0
+UnsaidZero (suc k) place values = (i : ℕ) → getD values i 0 ≡ 0
+
+-- the best increases: the saving and, in place of a place, how many were written
 abbrev pub layout-answer : ℕ → ℕ → ℕ → Answer
-layout-answer zero place saved = accepted (saved ∷ place ∷ [])
-layout-answer (suc k) place saved = refusal (suc k) place
+layout-answer number place saved = told number place (saved ∷ place ∷ [])
 
 -- a refusal saves nothing
 abbrev pub NoSavingRefused : ℕ → ℕ → Type 0

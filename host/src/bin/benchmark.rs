@@ -2,15 +2,12 @@
 //! the same run, in edition 1, in edition 2 with wire delays, and in edition 3 with the activities of the same. Each time is
 //! the least of several rounds; neither side's buffers are cleared between calls.
 
-#[path = "../ffi.rs"]
-mod ffi;
-
 use reference::block::MAX_GATES;
-use reference::compare::bytes_of;
-use reference::measure::{cells, files, least_times, print_cells, print_ratios, Times, MOST_WIRE_DELAY, SIZES};
+use reference::compare::calls::bytes_of;
+use reference::ffi;
+use reference::measure::{cells, files, kept, least_times, print_cells, print_ratios, Times, MOST_WIRE_DELAY, SIZES};
 use reference::merging;
 use reference::shapes::ALL_SHAPES;
-use std::hint::black_box;
 
 /// Both sides answer every file with the same list and saving.
 fn check_same(files: &[Vec<u8>]) {
@@ -31,9 +28,9 @@ fn measure(files: &[Vec<u8>]) -> Times {
     least_times(
         files,
         |file| {
-            black_box(merging::best_increases(file, &mut increases)).expect("a block in time");
+            kept(merging::best_increases(file, &mut increases)).expect("a block in time");
         },
-        |file| assert_eq!(black_box(ffi::best_increases(file, &mut bytes)).number, 0),
+        |file| assert_eq!(kept(ffi::best_increases(file, &mut bytes)).number, 0),
     )
 }
 

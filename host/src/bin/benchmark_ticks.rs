@@ -3,12 +3,9 @@
 //! The fewest ticks make two slices of their own for the curve, so the second comparison is with a caller who makes them anew
 //! for each call too.
 
-#[path = "../probes.rs"]
-mod probes;
-
 use reference::answers::{self, MAX_PAIRS};
-use reference::measure::{cells, least_times, print_cells, print_ratios, Times};
-use std::hint::black_box;
+use reference::ffi;
+use reference::measure::{cells, kept, least_times, print_cells, print_ratios, Times};
 
 /// All that a block can save, and the ticks that it needs.
 fn whole(file: &[u8]) -> (u64, u64) {
@@ -21,18 +18,18 @@ fn measure(files: &[Vec<u8>], cleared: bool) -> Times {
     let (mut widths, mut gains) = ([0; MAX_PAIRS], [0; MAX_PAIRS]);
     let wanted: Vec<(&[u8], u64)> = files.iter().map(|file| (&file[..], whole(file).0)).collect();
     for (file, wanted) in &wanted {
-        assert_eq!(u64::from(probes::fewest_ticks(file, *wanted).ticks), whole(file).1);
+        assert_eq!(ffi::fewest_ticks(file, *wanted).ticks, whole(file).1);
     }
     least_times(
         &wanted,
         |(file, _)| {
             if cleared {
-                black_box(&mut widths).fill(0);
-                black_box(&mut gains).fill(0);
+                kept(&mut widths).fill(0);
+                kept(&mut gains).fill(0);
             }
-            assert_eq!(black_box(probes::curve(file, &mut widths, &mut gains)).number, 0)
+            assert_eq!(kept(ffi::curve(file, &mut widths, &mut gains)).number, 0)
         },
-        |(file, wanted)| assert_eq!(black_box(probes::fewest_ticks(file, *wanted)).number, 0),
+        |(file, wanted)| assert_eq!(kept(ffi::fewest_ticks(file, *wanted)).number, 0),
     )
 }
 

@@ -1,45 +1,103 @@
-//! compare [FILES [SEED]]: the layout editor's call against the reference, on random files of every edition, valid and damaged.
-//! File and lent slice each end before a page that may not be touched, and the file's pages are closed for writing.
+//! compare [FILES [SEED]]: the library's calls against the reference, on random files of every edition, valid and damaged. Each is
+//! compared twice: with the file and every lent slice before a page that may not be touched, what it may only read in pages
+//! closed for writing; and as it is, with guards around the lent slices.
 
-#[path = "../ffi.rs"]
-mod ffi;
 #[path = "../pages.rs"]
 mod pages;
 
 use pages::Pages;
-use reference::compare::{compare, elevens, files_and_seeds, Answer};
+use reference::arguments::{files_and_seeds, usage};
+use reference::compare::{best, curve, judge, slacks, ticks};
+use reference::ffi::{self, Answer, CurveAnswer, TicksAnswer};
 use std::process::exit;
 
-/// The call, with file and slice moved to the ends of their pages.
-fn call(file_pages: &mut Pages, slice_pages: &mut Pages, file: &[u8], lent: &mut [u8]) -> Answer {
-    file_pages.writable(true);
-    file_pages.last_bytes(file.len()).copy_from_slice(file);
-    file_pages.writable(false);
-    let slice = slice_pages.last_bytes(lent.len());
-    slice.copy_from_slice(lent);
-    let answer = ffi::best_increases(file_pages.last_bytes_read(file.len()), slice);
-    lent.copy_from_slice(slice);
-    answer
+/// The library's calls, with what they are lent as it is or moved.
+trait Calls {
+    fn best_increases(&mut self, file: &[u8], increases: &mut [u8]) -> Answer;
+    fn slacks(&mut self, file: &[u8], slacks: &mut [i32]) -> Answer;
+    fn curve(&mut self, file: &[u8], widths: &mut [u32], gains: &mut [u32]) -> CurveAnswer;
+    fn judge(&mut self, file: &[u8], increases: &[u32]) -> Answer;
+    fn fewest_ticks(&mut self, file: &[u8], wanted: u64) -> TicksAnswer;
+}
+
+struct AsItIs;
+
+impl Calls for AsItIs {
+    fn best_increases(&mut self, file: &[u8], increases: &mut [u8]) -> Answer {
+        ffi::best_increases(file, increases)
+    }
+
+    fn slacks(&mut self, file: &[u8], slacks: &mut [i32]) -> Answer {
+        ffi::slacks(file, slacks)
+    }
+
+    fn curve(&mut self, file: &[u8], widths: &mut [u32], gains: &mut [u32]) -> CurveAnswer {
+        ffi::curve(file, widths, gains)
+    }
+
+    fn judge(&mut self, file: &[u8], increases: &[u32]) -> Answer {
+        ffi::judge(file, increases)
+    }
+
+    fn fewest_ticks(&mut self, file: &[u8], wanted: u64) -> TicksAnswer {
+        ffi::fewest_ticks(file, wanted)
+    }
+}
+
+/// Pages for the file and for two slices.
+struct InPages {
+    file: Pages,
+    one: Pages,
+    other: Pages,
+}
+
+impl Calls for InPages {
+    fn best_increases(&mut self, file: &[u8], increases: &mut [u8]) -> Answer {
+        let file = self.file.show(file);
+        self.one.lend(increases, |increases| ffi::best_increases(file, increases))
+    }
+
+    fn slacks(&mut self, file: &[u8], slacks: &mut [i32]) -> Answer {
+        let file = self.file.show(file);
+        self.one.lend(slacks, |slacks| ffi::slacks(file, slacks))
+    }
+
+    fn curve(&mut self, file: &[u8], widths: &mut [u32], gains: &mut [u32]) -> CurveAnswer {
+        let (file, other) = (self.file.show(file), &mut self.other);
+        self.one.lend(widths, |widths| other.lend(gains, |gains| ffi::curve(file, widths, gains)))
+    }
+
+    fn judge(&mut self, file: &[u8], increases: &[u32]) -> Answer {
+        ffi::judge(self.file.show(file), self.one.show(increases))
+    }
+
+    fn fewest_ticks(&mut self, file: &[u8], wanted: u64) -> TicksAnswer {
+        ffi::fewest_ticks(self.file.show(file), wanted)
+    }
+}
+
+/// Compares every call on so many files; what each comparison met with, or what differs.
+fn compared(calls: &mut dyn Calls, files: usize, seed: u64) -> Result<[(&'static str, String); 5], String> {
+    let best = best::compare(&mut |file, lent| calls.best_increases(file, lent), files, seed)?;
+    let slacks = slacks::compare(&mut |file, lent| calls.slacks(file, lent), files, seed)?;
+    let curve = curve::compare(&mut |file, widths, gains| calls.curve(file, widths, gains), files, seed)?;
+    let judge = judge::compare(&mut |file, lent| calls.judge(file, lent), files, seed)?;
+    let ticks = ticks::compare(&mut |file, wanted| calls.fewest_ticks(file, wanted), files, seed)?;
+    Ok([
+        ("best increases", best.to_string()),
+        ("slacks", slacks.to_string()),
+        ("curve", curve.to_string()),
+        ("judge", judge.to_string()),
+        ("fewest ticks", ticks.to_string()),
+    ])
 }
 
 fn run(files: usize, seed: u64) {
-    let (mut file_pages, mut slice_pages) = (Pages::reserve(), Pages::reserve());
-    let mut in_pages = |file: &[u8], lent: &mut [u8]| call(&mut file_pages, &mut slice_pages, file, lent);
-    let in_pages = compare(&mut in_pages, files, seed);
-    match in_pages.and_then(|_| compare(&mut ffi::best_increases, files, seed + 1)) {
-        Ok(compared) => {
-            let sized = compared.numbers[0];
-            let refused = compared.files - sized;
-            println!(
-                "compare: seed {seed}: {} files twice, of the second run {sized} sized, {refused} refused",
-                compared.files
-            );
-            println!(
-                "compare: seed {seed}: of the second run's random files {}; of those sized {}, {} in finer ticks too",
-                elevens(&compared.places),
-                compared.sized,
-                compared.finer
-            );
+    let mut in_pages = InPages { file: Pages::reserve(), one: Pages::reserve(), other: Pages::reserve() };
+    match compared(&mut in_pages, files, seed).and_then(|_| compared(&mut AsItIs, files, seed + 1)) {
+        Ok(said) => {
+            println!("compare: seed {seed}: {files} files twice for each call; of the second run");
+            said.iter().for_each(|(call, met)| println!("compare: {call}: {met}"));
         }
         Err(difference) => {
             println!("compare: seed {seed}: {difference}");
@@ -49,6 +107,7 @@ fn run(files: usize, seed: u64) {
 }
 
 fn main() {
-    let (files, seeds) = files_and_seeds();
+    let arguments: Vec<String> = std::env::args().skip(1).collect();
+    let (files, seeds) = files_and_seeds(&arguments).unwrap_or_else(|| usage("compare [FILES [SEED]]"));
     seeds.into_iter().for_each(|seed| run(files, seed));
 }

@@ -1,5 +1,6 @@
 //! compare-resize PROGRAM [FILES [SEED]]: what the printing program writes against the reference's printout.
 
+use reference::arguments::{numbers, usage};
 use reference::block::{decode, encode};
 use reference::compare::{complete, elevens};
 use reference::generate::compared_block;
@@ -124,11 +125,17 @@ fn compare_random(program: &str, files: &[Vec<u8>]) -> String {
     format!("{}; of those sized {sized}", elevens(&places))
 }
 
+/// The program, how many random files, and their seed.
+fn arguments() -> Option<(String, u64, u64)> {
+    let words: Vec<String> = std::env::args().skip(1).collect();
+    let (program, rest) = words.split_first()?;
+    let numbers = numbers(rest, 0, 2)?;
+    Some((program.clone(), *numbers.first().unwrap_or(&300), *numbers.get(1).unwrap_or(&1)))
+}
+
 fn main() {
-    let arguments: Vec<String> = std::env::args().skip(1).collect();
-    let Some(program) = arguments.first() else { fail("usage: compare-resize PROGRAM [FILES [SEED]]".to_string()) };
-    let number = |at: usize, default: u64| arguments.get(at).and_then(|word| word.parse().ok()).unwrap_or(default);
-    let (files, seed) = (number(1, 300), number(2, 1));
+    let (program, files, seed) = arguments().unwrap_or_else(|| usage("compare-resize PROGRAM [FILES [SEED]]"));
+    let program = &program;
     let mut fixed: Vec<Vec<u8>> = worked::all().into_iter().map(|w| w.file).collect();
     fixed.extend(boundaries::all().into_iter().map(|b| b.file));
     fixed.extend(long_inputs());

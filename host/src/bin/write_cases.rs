@@ -2,6 +2,7 @@
 //! write-cases --resize DIR: writes those of the program `resize`, which reads the longest block file.
 //! write-cases --check [--resize] DIR: says whether they still are what it would write.
 
+use reference::arguments::usage;
 use reference::cases::{all, places_of_11, search_agrees, ticks_and_17, written};
 use reference::compare::elevens;
 use reference::generate::limits::largest_file;
@@ -52,7 +53,10 @@ fn main() {
         found
     };
     let (check, resize) = (option("--check"), option("--resize"));
-    let [folder] = words[..] else { fail("usage: write-cases [--check] [--resize] DIR".to_string()) };
+    let folder = match words[..] {
+        [folder] if !folder.starts_with('-') => folder,
+        _ => usage("write-cases [--check] [--resize] DIR"),
+    };
     let (input, output, said) = if resize { longest_file() } else { stored_cases() };
     for (name, content) in [("stdin", &input[..]), ("stdout", output.as_bytes())] {
         let path = Path::new(folder).join(name);

@@ -32,8 +32,9 @@ fn two_bytes(bytes: &[u8]) -> u32 {
 
 /// The body of the field at `offset`.
 fn body(file: &[u8], offset: usize, tag: u8, lengths: impl Fn(usize) -> bool) -> Result<&[u8], Refusal> {
-    let Some(header) = file.get(offset..offset + 3) else {
-        return refuse(1, offset);
+    let header = match file.get(offset..offset + 3) {
+        Some(header) => header,
+        None => return refuse(1, offset),
     };
     if header[0] != tag {
         return refuse(2, offset);

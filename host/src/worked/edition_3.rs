@@ -2,7 +2,7 @@
 //! own numbers.
 
 use super::Expected::*;
-use super::{delayed_diamond, diamond, file, paper_chain, paper_parallel, worked, Worked};
+use super::{chain_of_two, delayed_diamond, diamond, drawn, lone_gate, paper_chain, paper_parallel, worked, Worked};
 use crate::block::{encode, Block};
 use crate::generate::editions::set_activities;
 use std::iter::repeat;
@@ -77,7 +77,7 @@ fn diamonds() -> Vec<Worked> {
         ),
         worked(
             "D with the bits of a counter",
-            file(include_str!("../../../examples/measured.text")),
+            diamond_with(10, [32_768, 16_384, 8_192, 4_096, 2_048]),
             // gates 1 and 2 together earn (5 + 4) x 16,384 = 147,456 a tick, gate 3 only 6 x (8,192 + 4,096) = 73,728
             vec![
                 Best(&[0, 2, 4, 1], 499_712),
@@ -101,10 +101,9 @@ fn diamonds() -> Vec<Worked> {
 
 /// D with activity 0 of some nets: gates that gain nothing are never slowed.
 fn still_nets() -> Vec<Worked> {
-    let still = "block arrival 0 deadline 8 activity 0\ngate 0 delay 1 activity 5 steps (4,9)\n\
-        gate 1 delay 1 activity 7 steps (4,1)\nwires 0-1\n";
+    let still = measured(drawn(8, &[(1, &[(4, 9)]), (1, &[(4, 1)])], &[(0, 1)]), [0, 5, 7]);
     vec![
-        worked("activity 0 at the input", file(still), vec![Best(&[0, 4], 20), NotJudged(&[3, 4], 14, 0)]),
+        worked("activity 0 at the input", encode(&still), vec![Best(&[0, 4], 20), NotJudged(&[3, 4], 14, 0)]),
         worked("D with activity 0 of every net", throughout(diamond(14), 0), vec![Best(&[0; 4], 0), Curve(7, 0, &[])]),
         worked(
             "D with activity 0 of gate 0's output",
@@ -128,28 +127,23 @@ fn still_nets() -> Vec<Worked> {
 
 /// The chain of two, deadline 5, with these activities of the input and of gate 0's output: 3 ticks for the gate that gains
 /// more, for the first if both gain the same.
-fn chain_of_two(input: u32, between: u32) -> Vec<u8> {
-    file(&format!(
-        "block arrival 0 deadline 5 activity {input}\ngate 0 delay 1 activity {between} steps (4,3)\n\
-        gate 1 delay 1 activity 0 steps (4,3)\nwires 0-1\n"
-    ))
+fn chain(input: u32, between: u32) -> Vec<u8> {
+    encode(&measured(chain_of_two(5), [input, between, 0]))
 }
 
 /// Both bytes of an activity count, the high byte 256 times as much, and no formula is applied.
 fn bytes() -> Vec<Worked> {
-    let lone = |activity| {
-        file(&format!("block arrival 0 deadline 8 activity {activity}\ngate 0 delay 5 activity 0 steps (2,3)\n"))
-    };
+    let lone = |activity| encode(&measured(lone_gate(8), [activity, 0]));
     vec![
-        worked("256 at the input, 1 behind gate 0", chain_of_two(256, 1), vec![Best(&[3, 0], 2_304)]),
-        worked("1 at the input, 256 behind gate 0", chain_of_two(1, 256), vec![Best(&[0, 3], 2_304)]),
-        worked("256 at the input and behind gate 0", chain_of_two(256, 256), vec![Best(&[3, 0], 2_304)]),
-        worked("257 at the input, 256 behind gate 0", chain_of_two(257, 256), vec![Best(&[3, 0], 2_313)]),
-        worked("255 at the input, 256 behind gate 0", chain_of_two(255, 256), vec![Best(&[0, 3], 2_304)]),
-        worked("2 at the input, 1 behind gate 0", chain_of_two(2, 1), vec![Best(&[3, 0], 18)]),
+        worked("256 at the input, 1 behind gate 0", chain(256, 1), vec![Best(&[3, 0], 2_304)]),
+        worked("1 at the input, 256 behind gate 0", chain(1, 256), vec![Best(&[0, 3], 2_304)]),
+        worked("256 at the input and behind gate 0", chain(256, 256), vec![Best(&[3, 0], 2_304)]),
+        worked("257 at the input, 256 behind gate 0", chain(257, 256), vec![Best(&[3, 0], 2_313)]),
+        worked("255 at the input, 256 behind gate 0", chain(255, 256), vec![Best(&[0, 3], 2_304)]),
+        worked("2 at the input, 1 behind gate 0", chain(2, 1), vec![Best(&[3, 0], 18)]),
         // by the formula 255 would count as much as 1, and less than 128
-        worked("255 at the input, 128 behind gate 0", chain_of_two(255, 128), vec![Best(&[3, 0], 2_295)]),
-        worked("65,535 at the input, 65,534 behind gate 0", chain_of_two(65_535, 65_534), vec![Best(&[3, 0], 589_815)]),
+        worked("255 at the input, 128 behind gate 0", chain(255, 128), vec![Best(&[3, 0], 2_295)]),
+        worked("65,535 at the input, 65,534 behind gate 0", chain(65_535, 65_534), vec![Best(&[3, 0], 589_815)]),
         worked("one gate, activity 257", lone(257), vec![Best(&[2], 1_542)]),
         worked("one gate, activity 32,769", lone(32_769), vec![Best(&[2], 196_614)]),
         worked("one gate, activity 65,535", lone(65_535), vec![Best(&[2], 393_210)]),

@@ -1,15 +1,19 @@
 //! Blocks in finer ticks (document 02, K14), worked out by hand: document 01's diamond and parallel gates and others in tenths
-//! of a tick, and a chain at the limits of a file. Their texts are written out, so that no program has scaled them.
+//! of a tick, and a chain at the limits of a file. Their numbers are written out, so that no program has scaled them.
 
+use super::edition_3::measured;
 use super::Expected::*;
-use super::{file, worked, Worked, U};
+use super::{delayed, drawn, worked, Drawn, Worked, BRIDGE, DIAMOND, U};
+use crate::block::{encode, Block};
 
 /// Diamond D in tenths of a tick.
+fn tenths(deadline: u32) -> Block {
+    drawn(deadline, &[(20, &[]), (30, &[(20, 5), (30, 2)]), (10, &[(40, 4)]), (20, &[(50, 6)])], &DIAMOND)
+}
+
+/// Its file.
 pub fn diamond_in_tenths(deadline: u32) -> Vec<u8> {
-    file(&format!(
-        "block arrival 0 deadline {deadline} p 128\ngate 0 delay 20 p 128\ngate 1 delay 30 p 128 steps (20,5) (30,2)\n\
-        gate 2 delay 10 p 128 steps (40,4)\ngate 3 delay 20 p 128 steps (50,6)\nwires 0-1 0-2 1-3 2-3\n"
-    ))
+    encode(&tenths(deadline))
 }
 
 /// D with deadlines of whole ticks, and with two that only tenths can say: at 75 gate 3 gets the 5 tenths to spare, which earn
@@ -45,16 +49,10 @@ fn diamonds() -> Vec<Worked> {
 /// D with wire delays 10 0 0 20: the branches take 80 and 70 tenths, gate 3 gets all 40 to spare, gate 2 the 10 by which its
 /// branch is shorter. Then D with the bits of a counter.
 fn other_diamonds() -> Vec<Worked> {
-    let delayed = "block arrival 0 deadline 120 p 128 edition 2\ngate 0 delay 20 p 128\n\
-        gate 1 delay 30 p 128 steps (20,5) (30,2)\ngate 2 delay 10 p 128 steps (40,4)\n\
-        gate 3 delay 20 p 128 steps (50,6)\nwires 0-1:10 0-2 1-3 2-3:20\n";
-    let measured = "block arrival 0 deadline 100 activity 32768\ngate 0 delay 20 activity 16384\n\
-        gate 1 delay 30 activity 8192 steps (20,5) (30,2)\ngate 2 delay 10 activity 4096 steps (40,4)\n\
-        gate 3 delay 20 activity 2048 steps (50,6)\nwires 0-1 0-2 1-3 2-3\n";
     vec![
         worked(
             "D with wire delays in tenths of a tick",
-            file(delayed),
+            encode(&delayed(tenths(120), [10, 0, 0, 20])),
             vec![
                 Best(&[0, 0, 10, 40], 520 * U),
                 Curve(80, 40 * U, &[(50, 12 * U), (20, 9 * U), (10, 6 * U), (20, 2 * U)]),
@@ -65,7 +63,7 @@ fn other_diamonds() -> Vec<Worked> {
         ),
         worked(
             "D with the bits of a counter in tenths of a tick",
-            file(measured),
+            encode(&measured(tenths(100), [32_768, 16_384, 8_192, 4_096, 2_048])),
             vec![Best(&[0, 20, 40, 10], 4_997_120), Curve(70, 1_310_720, &[(20, 147_456), (50, 73_728), (30, 32_768)])],
         ),
     ]
@@ -74,30 +72,26 @@ fn other_diamonds() -> Vec<Worked> {
 /// 001's parallel gates, the chain of two and a bridge in tenths of a tick; and a chain of two gates as slow and as wide as a
 /// file can say, 4,095 times as fine as with delays and widths 1, arrival 13 and deadline 16.
 fn others() -> Vec<Worked> {
-    let parallel = "block arrival 0 deadline 70 p 128\ngate 0 delay 0 p 128\n\
-        gate 1 delay 30 p 128 steps (30,28) (50,24) (30,21)\ngate 2 delay 20 p 128 steps (20,24) (40,23)\n\
-        gate 3 delay 0 p 128\nwires 0-1 0-2 1-3 2-3\n";
-    let chain = "block arrival 0 deadline 50 p 128\ngate 0 delay 10 p 128 steps (40,3)\n\
-        gate 1 delay 10 p 128 steps (40,3)\nwires 0-1\n";
-    let bridge = "block arrival 20 deadline 90 p 128\ngate 0 delay 10 p 128\ngate 1 delay 20 p 128 steps (30,2)\n\
-        gate 2 delay 10 p 128 steps (20,5)\ngate 3 delay 10 p 128\nwires 0-1 0-2 1-2 1-3 2-3\n";
-    let at_limits = "block arrival 53235 deadline 65520 p 128\ngate 0 delay 4095 p 128 steps (4095,3)\n\
-        gate 1 delay 4095 p 128 steps (4095,3)\nwires 0-1\n";
+    let (one, other): (Drawn, Drawn) = ((30, &[(30, 28), (50, 24), (30, 21)]), (20, &[(20, 24), (40, 23)]));
+    let parallel = drawn(70, &[(0, &[]), one, other, (0, &[])], &DIAMOND);
+    let chain = drawn(50, &[(10, &[(40, 3)]), (10, &[(40, 3)])], &[(0, 1)]);
+    let bridge = drawn(90, &[(10, &[]), (20, &[(30, 2)]), (10, &[(20, 5)]), (10, &[])], &BRIDGE);
+    let at_limits = drawn(65_520, &[(4_095, &[(4_095, 3)]), (4_095, &[(4_095, 3)])], &[(0, 1)]);
     vec![
         worked(
             "001's parallel gates in tenths of a tick",
-            file(parallel),
+            encode(&parallel),
             vec![
                 Curve(30, 240 * U, &[(10, 52 * U), (20, 51 * U), (20, 47 * U), (30, 24 * U), (30, 21 * U)]),
                 // 240U + 10 x 52U + 20 x 51U + 10 x 47U
                 Best(&[0, 40, 50, 0], 2_250 * U),
             ],
         ),
-        worked("chain of two in tenths of a tick", file(chain), vec![Best(&[30, 0], 90 * U)]),
-        worked("bridge in tenths of a tick", file(bridge), vec![Refused(11, 1)]),
+        worked("chain of two in tenths of a tick", encode(&chain), vec![Best(&[30, 0], 90 * U)]),
+        worked("bridge in tenths of a tick", encode(&Block { arrival: 20, ..bridge }), vec![Refused(11, 1)]),
         worked(
             "chain of two, 4,095 times as fine",
-            file(at_limits),
+            encode(&Block { arrival: 53_235, ..at_limits }),
             vec![Best(&[4_095, 0], 12_285 * U), Curve(8_190, 0, &[(8_190, 3 * U)])],
         ),
     ]

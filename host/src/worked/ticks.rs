@@ -2,8 +2,8 @@
 
 use super::edition_3::measured;
 use super::Expected::*;
-use super::{delayed_diamond, diamond, file, frame, only_wires, worked, Worked, U};
-use crate::block::encode;
+use super::{delayed_diamond, diamond, drawn, frame, lone_gate, only_wires, worked, Worked, BRIDGE, U};
+use crate::block::{encode, Block};
 use crate::generate::limits::{largest_measured_gain, most_ticks};
 
 /// A block with wanted savings and the fewest ticks for each; all that it can save is `whole`, and more gets 17.
@@ -58,7 +58,7 @@ fn savings_at_start() -> Vec<Worked> {
     // the branches of D take 8 and 7 ticks: 4U at start, then 12U for 5 ticks, 9U for 2, 6U for 1 and 2U for 2
     let delayed = encode(&delayed_diamond([1, 0, 0, 2]));
     // gate 2 has 3 ticks, and its branch is 8, then 2 ticks shorter than the other
-    let short = |delay: u32| frame(&format!("delay {delay} p 128"), "delay 1 p 128 steps (3,4)");
+    let short = |delay| frame((delay, &[]), (1, &[(3, 4)]));
     vec![
         reached(
             "fewest ticks of D with wire delays 1 0 0 2",
@@ -89,13 +89,12 @@ fn savings_at_start() -> Vec<Worked> {
 
 /// Odd gains, so that most wanted savings lie between those of two numbers of ticks.
 fn odd_gains() -> Vec<Worked> {
-    let chain = "block arrival 0 deadline 3 activity 7\ngate 0 delay 1 activity 5 steps (2,3) (3,1)\n\
-        gate 1 delay 2 activity 9 steps (2,5)\nwires 0-1\n";
+    let chain = drawn(3, &[(1, &[(2, 3), (3, 1)]), (2, &[(2, 5)])], &[(0, 1)]);
     vec![
         // gate 1 gains 5 x 5 for 2 ticks, gate 0 gains 3 x 7 for 2 and 7 for 3: 0 25 50 71 92 99 106 113
         reached(
             "a chain that gains 25, 21 and 7",
-            file(chain),
+            encode(&measured(chain, [7, 5, 9])),
             &[
                 (1, 1),
                 (24, 1),
@@ -143,17 +142,17 @@ fn odd_gains() -> Vec<Worked> {
 
 /// Gates and blocks at the limits.
 fn limits() -> Vec<Worked> {
-    let lone = "block arrival 9 deadline 0 p 128\ngate 0 delay 5 p 128 steps (2,3)\n";
-    let wide = "block arrival 0 deadline 9 activity 65535\ngate 0 delay 4095 activity 0 steps (4095,1000)\n";
+    let lone = Block { arrival: 9, ..lone_gate(0) };
+    let wide = measured(drawn(9, &[(4_095, &[(4_095, 1_000)])], &[]), [65_535, 0]);
     vec![
-        reached("a lone gate", file(lone), &[(0, 0), (1, 1), (3 * U, 1), (3 * U + 1, 2), (6 * U, 2)], 6 * U),
-        reached("no gate has a step", only_wires(3, "0-1 1-2"), &[(0, 0)], 0),
+        reached("a lone gate", encode(&lone), &[(0, 0), (1, 1), (3 * U, 1), (3 * U + 1, 2), (6 * U, 2)], 6 * U),
+        reached("no gate has a step", only_wires(3, &[(0, 1), (1, 2)]), &[(0, 0)], 0),
         refused("no byte at all", Vec::new(), 1, 0),
-        refused("a bridge", only_wires(4, "0-1 0-2 1-2 1-3 2-3"), 11, 1),
+        refused("a bridge", only_wires(4, &BRIDGE), 11, 1),
         // each tick gains 65,535 x 1,000
         reached(
             "a lone gate with the widest step",
-            file(wide),
+            encode(&wide),
             &[
                 (65_535_000, 1),
                 (65_535_001, 2),

@@ -2,20 +2,15 @@
 //! tick, the one whose highest gate is the lowest is slowed first.
 
 use super::Expected::*;
-use super::{file, worked, Worked, U};
-
-/// A gate's delay and step.
-type Drawn = (u32, &'static str);
+use super::{drawn, worked, Drawn, Worked, U};
+use crate::block::encode;
 
 /// A gate of delay 1 without a step.
-const PLAIN: Drawn = (1, "");
+const PLAIN: Drawn = (1, &[]);
 
 /// A block of edition 1 with p 128 throughout.
-fn block(deadline: u32, gates: &[Drawn], wires: &str) -> Vec<u8> {
-    let steps = |step: &str| if step.is_empty() { String::new() } else { format!(" steps {step}") };
-    let line = |(g, drawn): (usize, &Drawn)| format!("gate {g} delay {} p 128{}\n", drawn.0, steps(drawn.1));
-    let lines: String = gates.iter().enumerate().map(line).collect();
-    file(&format!("block arrival 0 deadline {deadline} p 128\n{lines}wires {wires}\n"))
+fn block(deadline: u32, gates: &[Drawn], wires: &[(usize, usize)]) -> Vec<u8> {
+    encode(&drawn(deadline, gates, wires))
 }
 
 /// 2 ticks for each of the gates 0 to 31, one for gate 32.
@@ -32,17 +27,17 @@ const FIRST_GATES: [u32; 64] = {
 
 /// Equal gates in series: the ticks go to the lowest numbers, wherever these stand in the chain.
 fn chains() -> Vec<Worked> {
-    let equal = (1, "(2,3)");
+    let (equal, narrow): (Drawn, Drawn) = ((1, &[(2, 3)]), (1, &[(2, 1)]));
     let chain_of_64 = |order: Vec<usize>| {
-        let wires: Vec<String> = order.windows(2).map(|ends| format!("{}-{}", ends[0], ends[1])).collect();
-        block(64 + 65, &[(1, "(2,1)"); 64], &wires.join(" "))
+        let wires: Vec<(usize, usize)> = order.windows(2).map(|ends| (ends[0], ends[1])).collect();
+        block(64 + 65, &[narrow; 64], &wires)
     };
     let along = (0..64).collect();
     let against = [0].into_iter().chain((1..63).rev()).chain([63]).collect();
     vec![
         worked(
             "three equal gates in series, the highest number in front",
-            block(8, &[PLAIN, equal, equal, equal, PLAIN], "0-3 3-1 1-2 2-4"),
+            block(8, &[PLAIN, equal, equal, equal, PLAIN], &[(0, 3), (3, 1), (1, 2), (2, 4)]),
             vec![Best(&[0, 2, 1, 0, 0], 9 * U)],
         ),
         worked("64 equal gates in series", chain_of_64(along), vec![Best(&FIRST_GATES, 65 * U)]),
@@ -53,15 +48,16 @@ fn chains() -> Vec<Worked> {
 /// Gates 1 and 4 side by side gain 2U + 4U for a tick. Gate 3 behind them has two wires in and gains 3 x 2U, gate 5 before
 /// them 6U, where they have a step. Start is 6.
 fn part_and_gates(deadline: u32, gate_3: Drawn, gate_5: Drawn) -> Vec<u8> {
-    let gates = [PLAIN, (1, "(3,2)"), PLAIN, gate_3, (1, "(3,4)"), gate_5, PLAIN];
-    block(deadline, &gates, "0-5 5-1 5-4 1-3 4-3 3-2 2-6")
+    let gates: [Drawn; 7] = [PLAIN, (1, &[(3, 2)]), PLAIN, gate_3, (1, &[(3, 4)]), gate_5, PLAIN];
+    block(deadline, &gates, &[(0, 5), (5, 1), (5, 4), (1, 3), (4, 3), (3, 2), (2, 6)])
 }
 
 /// A part and single gates in series with it, and two parts in series.
 fn parts() -> Vec<Worked> {
-    let (gate_3, gate_5) = ((1, "(3,3)"), (1, "(3,6)"));
+    let (gate_3, gate_5): (Drawn, Drawn) = ((1, &[(3, 3)]), (1, &[(3, 6)]));
     // U + 5U with gates 1 and 6, 2U + 4U with 4 and 5
-    let two_parts = [PLAIN, (1, "(3,1)"), PLAIN, PLAIN, (1, "(3,2)"), (1, "(3,4)"), (1, "(3,5)"), PLAIN];
+    let two_parts: [Drawn; 8] =
+        [PLAIN, (1, &[(3, 1)]), PLAIN, PLAIN, (1, &[(3, 2)]), (1, &[(3, 4)]), (1, &[(3, 5)]), PLAIN];
     vec![
         // 3 is below 4: all 3 ticks of gate 3, then one of the part
         worked(
@@ -83,7 +79,7 @@ fn parts() -> Vec<Worked> {
         // 5 is below 6: all 3 ticks of gates 4 and 5, then one of the other part
         worked(
             "gates 1 and 6 side by side, then 4 and 5",
-            block(10, &two_parts, "0-1 0-6 1-2 6-2 2-4 2-5 4-3 5-3 3-7"),
+            block(10, &two_parts, &[(0, 1), (0, 6), (1, 2), (6, 2), (2, 4), (2, 5), (4, 3), (5, 3), (3, 7)]),
             vec![Best(&[0, 1, 0, 0, 3, 3, 1, 0], 24 * U)],
         ),
     ]
@@ -91,19 +87,19 @@ fn parts() -> Vec<Worked> {
 
 /// Ties inside a branch: its ticks go to the lower of two equal gates first.
 fn branches() -> Vec<Worked> {
-    let wires = "0-3 3-1 1-4 0-2 2-4";
-    let equal = (1, "(2,5)");
+    let wires = [(0, 3), (3, 1), (1, 4), (0, 2), (2, 4)];
+    let equal: Drawn = (1, &[(2, 5)]);
     vec![
         // the branch is 3 ticks shorter than that of gate 2, and none is to spare
         worked(
             "gates 3 and 1 in series beside a slower gate 2",
-            block(7, &[PLAIN, equal, (5, ""), equal, PLAIN], wires),
+            block(7, &[PLAIN, equal, (5, &[]), equal, PLAIN], &wires),
             vec![Best(&[0, 2, 0, 1, 0], 15 * U), Curve(7, 15 * U, &[(1, 5 * U)])],
         ),
         // both branches take 2 ticks, and 3 are to spare
         worked(
             "gates 3 and 1 in series beside gate 2",
-            block(7, &[PLAIN, equal, (2, "(4,1)"), equal, PLAIN], wires),
+            block(7, &[PLAIN, equal, (2, &[(4, 1)]), equal, PLAIN], &wires),
             vec![Best(&[0, 2, 3, 1, 0], 18 * U)],
         ),
     ]
@@ -112,27 +108,27 @@ fn branches() -> Vec<Worked> {
 /// A part with two gates, or a part and a gate, of equal gain in one branch gains 2U + 4U for a tick with either of them. A
 /// single gate behind the part has two wires in and gains 3 x 2U.
 fn parts_with_two_ties() -> Vec<Worked> {
-    let (equal, beside, single) = ((1, "(2,2)"), (2, "(4,4)"), (1, "(1,3)"));
+    let (equal, beside, single): (Drawn, Drawn, Drawn) = ((1, &[(2, 2)]), (2, &[(4, 4)]), (1, &[(1, 3)]));
     // 2 ticks of gates 1 and 2, one of gate 4, then gates 5 and 2
     let around = |deadline| {
         let gates = [PLAIN, equal, beside, PLAIN, single, equal, PLAIN];
-        block(deadline, &gates, "0-5 5-1 1-4 0-2 2-4 4-3 3-6")
+        block(deadline, &gates, &[(0, 5), (5, 1), (1, 4), (0, 2), (2, 4), (4, 3), (3, 6)])
     };
     // one tick of gate 5, then gates 1 and 6, then 3 and 6
     let below = [PLAIN, equal, PLAIN, equal, PLAIN, single, beside, PLAIN];
     // 2 ticks of gates 1 and 2, which gain U + U, with gate 4, one of gate 5, then gate 6, which gains 2U, with gate 4
-    let inner = [PLAIN, (1, "(2,1)"), (1, "(2,1)"), PLAIN, beside, single, (1, "(2,1)"), PLAIN];
+    let inner: [Drawn; 8] = [PLAIN, (1, &[(2, 1)]), (1, &[(2, 1)]), PLAIN, beside, single, (1, &[(2, 1)]), PLAIN];
     vec![
         worked("gate 4 between 1 with 2 and 5 with 2, 3 ticks", around(9), vec![Best(&[0, 2, 2, 0, 1, 0, 0], 18 * U)]),
         worked("gate 4 between 1 with 2 and 5 with 2, 4 ticks", around(10), vec![Best(&[0, 2, 3, 0, 1, 1, 0], 24 * U)]),
         worked(
             "gate 5 before 1 with 6 and 3 with 6",
-            block(11, &below, "0-3 3-1 1-5 0-6 6-5 5-2 2-4 4-7"),
+            block(11, &below, &[(0, 3), (3, 1), (1, 5), (0, 6), (6, 5), (5, 2), (2, 4), (4, 7)]),
             vec![Best(&[0, 2, 0, 1, 0, 1, 3, 0], 24 * U)],
         ),
         worked(
             "gate 5 between 1 and 2 with 4 and 6 with 4",
-            block(10, &inner, "0-1 0-2 1-6 2-6 6-5 0-4 4-5 5-3 3-7"),
+            block(10, &inner, &[(0, 1), (0, 2), (1, 6), (2, 6), (6, 5), (0, 4), (4, 5), (5, 3), (3, 7)]),
             vec![Best(&[0, 2, 2, 0, 3, 1, 1, 0], 24 * U)],
         ),
     ]

@@ -2,7 +2,7 @@
 use borrow.Author.Needs.{needs}
 use Rattle.loading.proofs.HeldFile.{held-file}
 use Rattle.laying.proofs.LayoutLaws.{loading-refused, nothing-saved}
-use Rattle.layout.proofs.Places.{loading-place}
+use Rattle.laying.proofs.Places.{loading-place}
 use Rattle.layout.proofs.honduvi_best_increases.Statement.{statement}
 use Rattle.layout.proofs.honduvi_best_increases.Tie as tie
 

@@ -106,7 +106,10 @@ pub fn check_ties(random: &mut Random) -> (usize, usize, Counted) {
     let (mut blocks, mut gates, mut counted) = (0, 0, Counted::default());
     while blocks < 300 {
         let mut block = if blocks % 2 == 0 { larger_block(random) } else { any_tied_block(random, 64) };
-        let Some(best) = exact::best(&block) else { continue };
+        let best = match exact::best(&block) {
+            Some(best) => best,
+            None => continue,
+        };
         counted.count(&block);
         let mut earned = 0;
         for (gate, &increase) in best.increases.iter().enumerate().rev() {

@@ -1,8 +1,8 @@
 //! The fewest ticks for wanted savings (document 02, K6): the curve against every list, and against best lists.
 
 use crate::networks::small_block;
-use reference::answers::{self, TicksAnswer};
-use reference::block::{encode, refuse, Block};
+use reference::answers::{self, FewestTicks};
+use reference::block::{encode, refuse, Block, Refusal};
 use reference::exact::{self, Order};
 use reference::generate::editions::Counted;
 use reference::generate::ticks::uneven_block;
@@ -25,7 +25,7 @@ pub struct Asked {
 }
 
 impl Asked {
-    fn count(&mut self, answer: &TicksAnswer) {
+    fn count(&mut self, answer: &FewestTicks) {
         self.wanted += 1;
         match answer {
             Ok(0) => self.none += 1,
@@ -70,7 +70,7 @@ pub fn check_small(random: &mut Random) -> Asked {
             let answer = answers::fewest_ticks(&encode(&block), wanted);
             asked.count(&answer);
             let right = ticks.map_or(refuse(17, 0), Ok);
-            let refused_11 = answer.is_err_and(|refusal| refusal.number == 11);
+            let refused_11 = matches!(answer, Err(Refusal { number: 11, .. }));
             assert!(if series_parallel { answer == right } else { refused_11 }, "{wanted}: {answer:?}, {block:?}");
         }
     }
