@@ -1,0 +1,108 @@
+"""Honduvi's proved calls from Python, over the shared library that `host/run build` makes (target/host/libhonduvi.so).
+
+    import honduvi
+    library = honduvi.Library()
+    with open("adder.block", "rb") as stream:
+        best = library.best_increases(stream.read())
+    print(best.saving, best.increases)
+
+A refusal is raised as `Refused`, with its number and place. host/include/honduvi.h says what each number means, docs/FORMAT.md
+what bytes a block file has. This file needs nothing but the library: both can be copied.
+"""
+
+import ctypes
+import os
+from collections import namedtuple
+from ctypes import POINTER, c_char_p, c_int32, c_size_t, c_uint8, c_uint32, c_uint64
+
+MAX_GATES = 64
+MAX_PAIRS = 512
+
+Best = namedtuple("Best", "saving increases")
+# pairs are (width, gain)
+Curve = namedtuple("Curve", "start at_start pairs")
+
+
+class Refused(Exception):
+    """The file, the list or the wanted saving was refused."""
+
+    def __init__(self, number, place):
+        super().__init__(f"refused {number} {place}")
+        self.number = number
+        self.place = place
+
+
+class _Answer(ctypes.Structure):
+    _fields_ = [("number", c_uint32), ("place", c_uint32), ("saving", c_uint64)]
+
+
+class _CurveAnswer(ctypes.Structure):
+    _fields_ = [("number", c_uint32), ("place", c_uint32), ("start", c_uint32), ("pairs", c_uint32), ("at_start", c_uint64)]
+
+
+class _TicksAnswer(ctypes.Structure):
+    _fields_ = [("number", c_uint32), ("place", c_uint32), ("ticks", c_uint64)]
+
+
+_FILE = [c_char_p, c_size_t]
+_NUMBERS = [POINTER(c_uint32), c_size_t]
+_CALLS = {
+    "honduvi_best_increases": (_Answer, _FILE + [POINTER(c_uint8), c_size_t]),
+    "honduvi_slacks": (_Answer, _FILE + [POINTER(c_int32), c_size_t]),
+    "honduvi_curve": (_CurveAnswer, _FILE + _NUMBERS + _NUMBERS),
+    "honduvi_judge": (_Answer, _FILE + _NUMBERS),
+    "honduvi_fewest_ticks": (_TicksAnswer, _FILE + [c_uint64]),
+}
+
+
+def _accepted(answer):
+    if answer.number != 0:
+        raise Refused(answer.number, answer.place)
+    return answer
+
+
+def default_path():
+    """The library that HONDUVI_LIBRARY names, else the one that `host/run build` makes in this repository."""
+    root = os.path.join(os.path.dirname(os.path.realpath(__file__)), "..", "..")
+    return os.environ.get("HONDUVI_LIBRARY") or os.path.normpath(os.path.join(root, "target", "host", "libhonduvi.so"))
+
+
+class Library:
+    """The calls of one shared library. `file` is the bytes of a block file; any bytes may be handed over."""
+
+    def __init__(self, path=None):
+        self._library = ctypes.CDLL(path or default_path())
+        for name, (answer, arguments) in _CALLS.items():
+            function = getattr(self._library, name)
+            function.restype, function.argtypes = answer, arguments
+
+    def best_increases(self, file):
+        """The best list of delay increases, one for each gate, and its saving."""
+        lent = (c_uint8 * (4 * MAX_GATES))()
+        answer = _accepted(self._library.honduvi_best_increases(file, len(file), lent, len(lent)))
+        increases = [int.from_bytes(lent[4 * gate : 4 * gate + 4], "big") for gate in range(answer.place)]
+        return Best(answer.saving, increases)
+
+    def slacks(self, file):
+        """The slack of each gate before increases."""
+        lent = (c_int32 * MAX_GATES)()
+        return lent[: _accepted(self._library.honduvi_slacks(file, len(file), lent, len(lent))).place]
+
+    def curve(self, file):
+        """The saving curve: start, saving at start, and the pairs (width, gain)."""
+        widths, gains = (c_uint32 * MAX_PAIRS)(), (c_uint32 * MAX_PAIRS)()
+        answer = _accepted(self._library.honduvi_curve(file, len(file), widths, MAX_PAIRS, gains, MAX_PAIRS))
+        return Curve(answer.start, answer.at_start, list(zip(widths[: answer.pairs], gains[: answer.pairs])))
+
+    def judge(self, file, increases):
+        """The saving of a proposed list of increases; each is 0 to 2^32 - 1, and those beyond the gates are not read."""
+        if any(not 0 <= increase < 1 << 32 for increase in increases):
+            raise ValueError("an increase has 32 bits")
+        lent = (c_uint32 * len(increases))(*increases)
+        return _accepted(self._library.honduvi_judge(file, len(file), lent, len(lent))).saving
+
+    def fewest_ticks(self, file, wanted):
+        """The fewest spare ticks with which some list saves at least `wanted`, 0 to 2^64 - 1."""
+        if not 0 <= wanted < 1 << 64:
+            raise ValueError("a wanted saving has 64 bits")
+        return _accepted(self._library.honduvi_fewest_ticks(file, len(file), wanted)).ticks

@@ -1,0 +1,38 @@
+"""A block and its best increases in words."""
+
+from timing import longest_path
+from words import path_in_words
+
+CYCLES = 65_536
+PROVED = "every other list in time saves less, or as much and comes later in the order of ties"
+
+
+def per_cycle(saving):
+    """A saving in the unit of drops: what it is in a clock cycle."""
+    return f"{saving:,} ({saving / CYCLES:,.2f} drop x transitions per clock cycle)"
+
+
+def sized(netlist, increases):
+    """A line for each gate that is slowed."""
+    for number, (gate, increase) in enumerate(zip(netlist.gates, increases)):
+        if increase:
+            of = f"{increase} of {gate.widths} ticks"
+            yield f"  {netlist.label(number)}: delay {gate.delay} + {increase} = {gate.delay + increase} ({of})"
+
+
+def explained(block):
+    """The lines; a refusal of the best increases is raised."""
+    best = block.library.best_increases(block.file)
+    curve = block.library.curve(block.file)
+    netlist = block.netlist
+    spare, none = block.spare(curve.start), [0] * len(netlist.gates)
+    most_ticks = sum(width for width, _ in curve.pairs)
+    most = curve.at_start + sum(width * gain for width, gain in curve.pairs)
+    return [
+        f"{len(netlist.gates)} gates, {len(netlist.wires)} wires; arrival {netlist.arrival}, deadline {netlist.deadline}",
+        f"the longest path without increases lasts {curve.start} ticks: {path_in_words(netlist, longest_path(netlist, none))}",
+        f"{spare} spare ticks are left to the deadline",
+        f"the best increases save {per_cycle(best.saving)}; {PROVED}",
+        *(sized(netlist, best.increases) if any(best.increases) else ["  no gate is slowed"]),
+        f"with no spare tick {per_cycle(curve.at_start)} can be saved, with {most_ticks} or more {per_cycle(most)}",
+    ]

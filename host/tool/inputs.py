@@ -1,0 +1,111 @@
+"""What a person hands over, a block file or its description, and output that must arrive."""
+
+import contextlib
+import os
+import sys
+from dataclasses import dataclass
+
+import description
+from netlist import MAX_BYTES, encode
+from words import shown
+
+ACCEPTED, REFUSED, NO_ANSWER = 0, 1, 2
+
+
+class NoAnswer(Exception):
+    """Why there is no answer, in one line; without words where nobody would read them."""
+
+
+@dataclass(frozen=True)
+class Input:
+    """A block file with its name; and, where it came from a description, the netlist with the names of gates."""
+
+    name: str
+    file: bytes
+    netlist: object = None
+
+
+@contextlib.contextmanager
+def _faults_of(name):
+    try:
+        yield
+    except BrokenPipeError:
+        raise NoAnswer("") from None
+    except OSError as error:
+        raise NoAnswer(f"{shown(name)}: {error.strerror}") from None
+
+
+def _standard(stream, name):
+    """A standard stream of bytes, which the caller may have closed."""
+    if stream is None:
+        raise NoAnswer(f"{name} is closed")
+    return stream.buffer
+
+
+def _opened(name):
+    if name == "-":
+        return contextlib.nullcontext(_standard(sys.stdin, "standard input"))
+    return open(name, "rb")
+
+
+def read_bytes(name, most):
+    """A file of at most so many bytes; `-` is standard input."""
+    with _faults_of(name), _opened(name) as stream:
+        data = stream.read(most + 1)
+    if len(data) > most:
+        raise NoAnswer(f"{shown(name)}: more than {most:,} bytes")
+    return data
+
+
+def of_description(name, data):
+    """The input that a description says."""
+    try:
+        netlist = description.read(data)
+    except description.Fault as fault:
+        raise NoAnswer(fault.at(shown(name))) from None
+    return Input(name, encode(netlist), netlist)
+
+
+def read(name):
+    """A block file, of which the first 8,192 bytes decide, or a description, turned into one; `-` is standard input."""
+    with _faults_of(name), _opened(name) as stream:
+        data = stream.read(MAX_BYTES)
+        is_text = description.is_description(data)
+        if is_text:
+            data += stream.read(description.MAX_DESCRIPTION)
+    return of_description(name, data) if is_text else Input(name, data)
+
+
+def write(name, data):
+    """Bytes to a file, or to standard output for `-`; that they arrived is made sure of."""
+    if name != "-":
+        with _faults_of(name), open(name, "wb") as stream:
+            stream.write(data)
+        return
+    out = _standard(sys.stdout, "standard output")
+    try:
+        with _faults_of("standard output"):
+            out.write(data)
+            out.flush()
+    except NoAnswer:
+        # what is left in the buffer is not tried again at the end of the run
+        os.dup2(os.open(os.devnull, os.O_WRONLY), sys.stdout.fileno())
+        raise
+
+
+def say(line):
+    """A line to standard error, as far as somebody reads it."""
+    with contextlib.suppress(OSError):
+        print(line, file=sys.stderr, flush=True)
+
+
+def ended(name, run):
+    """The status of a run; why it has no answer is said with the name of the command in front."""
+    try:
+        return run()
+    except NoAnswer as reason:
+        if str(reason):
+            say(f"{name}: {reason}")
+        return NO_ANSWER
+    except KeyboardInterrupt:
+        return NO_ANSWER

@@ -1,0 +1,111 @@
+"""Tests of host/python/honduvi.py, and of what the tool finds itself against the proved calls. Needs
+target/host/libhonduvi.so."""
+
+import random
+import sys
+import unittest
+
+from building import ROOT
+from netlist import Gate, Netlist, Step, Wire, decode, encode
+from timing import longest_path, times
+
+sys.path.append(str(ROOT / "host" / "python"))
+from honduvi import Library, Refused  # noqa: E402
+
+U = 32_768
+D = (ROOT / "examples" / "diamond.block").read_bytes()
+EXAMPLES = [path.read_bytes() for path in sorted((ROOT / "examples").glob("*.block"))]
+
+
+def any_network(draw):
+    """A netlist of edition 2 without loops and with right ends, of any shape."""
+    count = draw.choice([1, 2, 3, 8, 20, 64])
+    pairs = set()
+    for gate in range(1, count):
+        pairs.add((draw.randrange(gate), gate))
+    for gate in range(count - 1):
+        if all(source != gate for source, _ in pairs):
+            pairs.add((gate, draw.randrange(gate + 1, count)))
+    wires = tuple(Wire(*pair, draw.randint(0, 50)) for pair in sorted(pairs))
+    gates = tuple(Gate(draw.randint(0, 100), draw.randint(0, 256), (Step(draw.randint(1, 40), 7),)) for _ in range(count))
+    return Netlist(2, draw.randint(0, 99), draw.randint(0, 2_000), 128, gates, wires)
+
+
+class Calls(unittest.TestCase):
+    def setUp(self):
+        self.library = Library()
+
+    def refused(self, call, *arguments):
+        with self.assertRaises(Refused) as found:
+            call(*arguments)
+        return found.exception.number, found.exception.place
+
+    def test_diamond(self):
+        self.assertEqual(self.library.best_increases(D), (44 * U, [0, 0, 2, 3]))
+        self.assertEqual(self.library.slacks(D), [3, 3, 5, 3])
+        self.assertEqual(self.library.curve(D), (7, 8 * U, [(5, 12 * U), (2, 9 * U), (3, 2 * U)]))
+        self.assertEqual(self.library.judge(D, [0, 0, 0, 3]), 36 * U)
+        self.assertEqual(self.library.judge(D, [0, 0, 0, 3, 2**32 - 1]), 36 * U)
+        self.assertEqual([self.library.fewest_ticks(D, k * U) for k in (0, 8, 44, 92)], [0, 0, 3, 10])
+
+    def test_refusals(self):
+        late = D[:8] + b"\x06" + D[9:]
+        for call in (self.library.best_increases, self.library.slacks, self.library.curve):
+            self.assertEqual(self.refused(call, b""), (1, 0))
+            self.assertEqual(self.refused(call, D[:40]), (1, 33))
+        self.assertEqual(self.refused(self.library.best_increases, late), (12, 0))
+        self.assertEqual(self.refused(self.library.judge, D, [0, 6, 0, 0]), (13, 1))
+        self.assertEqual(self.refused(self.library.judge, D, [0, 0, 2, 4]), (14, 0))
+        self.assertEqual(self.refused(self.library.judge, D, []), (10, 4))
+        self.assertEqual(self.refused(self.library.judge, b"", []), (1, 0))
+        self.assertEqual(self.refused(self.library.fewest_ticks, D, 92 * U + 1), (17, 0))
+        self.assertEqual(self.refused(self.library.fewest_ticks, D, 2**64 - 1), (17, 0))
+
+    def test_numbers_that_the_calls_cannot_take(self):
+        for increase in (-1, 2**32):
+            self.assertRaises(ValueError, self.library.judge, D, [0, 0, 0, increase])
+        for wanted in (-1, 2**64):
+            self.assertRaises(ValueError, self.library.fewest_ticks, D, wanted)
+
+
+class Found(unittest.TestCase):
+    """The tool's own times and paths are those of the proved calls."""
+
+    def setUp(self):
+        self.library = Library()
+
+    def test_slacks_and_start(self):
+        draw, curves = random.Random(5), 0
+        for file in EXAMPLES + [encode(any_network(draw)) for _ in range(400)]:
+            netlist, none = decode(file), [0] * file[4]
+            self.assertEqual(times(netlist, none).slacks, self.library.slacks(file))
+            path = longest_path(netlist, none)
+            wires = {(wire.source, wire.target): wire.delay for wire in netlist.wires}
+            lasts = sum(netlist.gates[gate].delay for gate in path) + sum(wires[pair] for pair in zip(path, path[1:]))
+            self.assertEqual((path[0], path[-1]), (0, len(netlist.gates) - 1))
+            self.assertEqual(netlist.deadline - netlist.arrival - lasts, min(self.library.slacks(file)))
+            try:
+                self.assertEqual(lasts, self.library.curve(file).start)
+                curves += 1
+            except Refused as refusal:
+                self.assertEqual(refusal.number, 11)
+        self.assertGreater(curves, 50)
+
+    def test_slacks_left_by_the_best_increases(self):
+        draw, sized = random.Random(6), 0
+        for file in EXAMPLES + [encode(any_network(draw)) for _ in range(400)]:
+            try:
+                increases = self.library.best_increases(file).increases
+            except Refused:
+                continue
+            netlist = decode(file)
+            slowed = tuple(Gate(g.delay + x, g.switching, g.steps) for g, x in zip(netlist.gates, increases))
+            if max(gate.delay for gate in slowed) <= 4_095:
+                slower = Netlist(netlist.edition, netlist.arrival, netlist.deadline, netlist.switching, slowed, netlist.wires)
+                self.assertEqual(times(netlist, increases).slacks, self.library.slacks(encode(slower)))
+                sized += 1
+        self.assertGreater(sized, 50)
+
+
+if __name__ == "__main__":
+    unittest.main()
