@@ -71,7 +71,10 @@ class Library:
     """The calls of one shared library. `file` is the bytes of a block file; any bytes may be handed over."""
 
     def __init__(self, path=None):
-        self._library = ctypes.CDLL(path or default_path())
+        path = path or default_path()
+        if not os.path.exists(path):
+            raise OSError(f"{path} is not there; in Honduvi's repository 'rt staticlib layout' and 'host/run shared' make it")
+        self._library = ctypes.CDLL(path)
         for name, (answer, arguments) in _CALLS.items():
             function = getattr(self._library, name)
             function.restype, function.argtypes = answer, arguments

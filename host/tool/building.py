@@ -40,11 +40,12 @@ def needs(root, name):
 
 
 def sources(root, crates):
-    """The files that the proofs and the code of these crates are in."""
+    """The files that the proofs and the code of these crates are in, and their folders, which change where a file goes."""
     yield root / "crates.txt"
     for crate in crates:
         for part in ("src", "specs", "proofs"):
-            yield from (path for path in (root / "crates" / crate / part).rglob("*") if path.is_file())
+            yield root / "crates" / crate / part
+            yield from (root / "crates" / crate / part).rglob("*")
 
 
 def changed(path):

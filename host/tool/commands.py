@@ -10,11 +10,14 @@ from pathlib import Path
 import building
 import description
 import inputs
-import pictures
-import yosys
 from arguments import Parser, number_below
+from block_picture import block_picture
+from cells import read_cells
+from curve_picture import curve_picture
 from explaining import explained
+from importing import import_json
 from inputs import ACCEPTED, REFUSED, NoAnswer
+from naming import CannotImport
 from netlist import MAX_TIME, decode
 from tables import Answer, Table, refused
 from words import refusal_in_words, shown
@@ -131,8 +134,7 @@ def answer(options):
         return ACCEPTED
     except Refused as refusal:
         words = block.words(refusal, **known)
-        said = f"{refusal}\n" if form == "text" else refused(refusal.number, refusal.place, words).rendered(form)
-        inputs.write("-", said.encode())
+        inputs.write("-", refused(refusal.number, refusal.place, words, form).encode())
         return told(options.file, words)
 
 
@@ -171,7 +173,7 @@ def explain(options):
 
 def draw_curve(block, title):
     found = block.library.curve(block.file)
-    return pictures.curve_picture(title, found.start, found.at_start, found.pairs, block.spare(found.start))
+    return curve_picture(title, found.start, found.at_start, found.pairs, block.spare(found.start))
 
 
 def draw_block(block, title):
@@ -182,7 +184,7 @@ def draw_block(block, title):
     except Refused as refusal:
         increases = None
         told(title, [f"drawn without increases: {line}" for line in block.words(refusal)])
-    return pictures.block_picture(title, block.netlist, increases)
+    return block_picture(title, block.netlist, increases)
 
 
 def draw(options):
@@ -216,13 +218,13 @@ def to_text(options):
 
 def import_netlist(options):
     try:
-        cells = yosys.read_cells(inputs.read_bytes(options.cells, description.MAX_DESCRIPTION).decode())
-    except (yosys.CannotImport, UnicodeDecodeError) as reason:
+        cells = read_cells(inputs.read_bytes(options.cells, description.MAX_DESCRIPTION).decode())
+    except (CannotImport, UnicodeDecodeError) as reason:
         raise NoAnswer(f"{shown(options.cells)}: {reason}") from None
     try:
         text = inputs.read_bytes(options.file, MAX_JSON).decode()
-        found = yosys.import_json(text, cells, options.module, options.arrival, options.deadline)
-    except (yosys.CannotImport, UnicodeDecodeError) as reason:
+        found = import_json(text, cells, options.module, options.arrival, options.deadline)
+    except (CannotImport, UnicodeDecodeError) as reason:
         raise NoAnswer(f"{shown(options.file)}: {reason}") from None
     for note in found.notes:
         inputs.say(f"{shown(options.file)}: {note}")

@@ -34,5 +34,5 @@ def explained(block):
         f"{spare} spare ticks are left to the deadline",
         f"the best increases save {per_cycle(best.saving)}; {PROVED}",
         *(sized(netlist, best.increases) if any(best.increases) else ["  no gate is slowed"]),
-        f"with no spare tick {per_cycle(curve.at_start)} can be saved, with {most_ticks} or more {per_cycle(most)}",
+        f"with no spare tick {curve.at_start:,} can be saved, with {most_ticks} or more {most:,}",
     ]

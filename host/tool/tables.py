@@ -55,8 +55,10 @@ class Answer:
         return lines + (self.table.as_text() if self.table is not None and self.table.rows else "")
 
 
-def refused(number, place, words):
-    """A refusal as an answer."""
-    return Answer(
-        {"refused": number, "place": place, "words": words}, Table("refusals", ("refused", "place"), [(number, place)])
-    )
+def refused(number, place, words, form):
+    """A refusal in this form; for people without the words, which go to standard error."""
+    if form == "json":
+        return Answer({"refused": number, "place": place, "words": words}).rendered(form)
+    if form == "csv":
+        return Table("refusals", ("refused", "place"), [(number, place)]).as_csv()
+    return f"refused {number} {place}\n"

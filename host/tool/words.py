@@ -8,9 +8,9 @@ table of refusals.
 from collections import Counter, deque
 from dataclasses import dataclass
 
-from netlist import BLOCK_LENGTH, BLOCK_TAG, GATE_LENGTHS, GATE_TAG, HEADER, MAX_DELAY, MAX_DROP, MAX_EDITION, MAX_GATES
-from netlist import MAX_STEPS, MAX_WIDTH, MAX_WIRES, WIRE_TAG, Netlist, bodies, decode, encode, has_wire_delays, max_switching
-from netlist import number, switching_word, wire_length
+from netlist import BLOCK_LENGTH, BLOCK_TAG, GATE_LENGTHS, GATE_TAG, HEADER, MAX_BYTES, MAX_DELAY, MAX_DROP, MAX_EDITION
+from netlist import MAX_GATES, MAX_STEPS, MAX_WIDTH, MAX_WIRES, WIRE_TAG, Netlist, bodies, decode, encode, has_wire_delays
+from netlist import max_switching, number, switching_word, wire_length
 from timing import gates_in_order, longest_path
 
 # the most characters of a line, of a path inside one, and of a gate's label; the short one is for lines that say much besides
@@ -303,8 +303,10 @@ def wrong_wire(spot):
 def too_long(spot):
     if not spot.left or spot.due != WIRE_TAG or len(spot.wires) != MAX_WIRES:
         return []
+    # of a longer file no more is read
+    more = " or more" if len(spot.file) >= MAX_BYTES else ""
     follows = "follows" if spot.left == 1 else "follow"
-    what = f"{counted(spot.left, 'byte')} {follows} the {MAX_WIRES}th wire, from byte {spot.at} on"
+    what = f"{counted(spot.left, 'byte')}{more} {follows} the {MAX_WIRES}th wire, from byte {spot.at} on"
     return [f"{what}; a file has at most {MAX_WIRES} wires"]
 
 

@@ -1,7 +1,6 @@
 """Tests of the first run of scripts/resize, and of when it builds again, with a stand-in for the toolchain in a copy of the
 scripts."""
 
-import os
 import re
 import shutil
 import subprocess
@@ -89,6 +88,14 @@ class FirstRun(unittest.TestCase):
         Path(f"{self.toolchain}.keeps").touch()
         self.touch("model")
         self.resize()
+        self.resize()
+        self.assertEqual(self.calls(), ["check resize"] * 2)
+
+    def test_a_source_that_is_gone_counts_as_a_change(self):
+        (self.root / "crates/model/src/more.rt").write_text("//\n")
+        self.resize()
+        time.sleep(0.02)
+        (self.root / "crates/model/src/more.rt").unlink()
         self.resize()
         self.assertEqual(self.calls(), ["check resize"] * 2)
 

@@ -69,7 +69,7 @@ gate  name    delay  increase  slack
         self.refused(self.honduvi("best", self.write("e", b"")), 1, 0, "empty")
         status, output, errors = self.honduvi("best", "l", "--json")
         found = json.loads(output)
-        self.assertEqual((status, found["refused"], found["place"]), (1, 12, 0))
+        self.assertEqual((status, found["refused"], found["place"], len(found)), (1, 12, 0, 3))
         self.assertIn("late by 1 tick", found["words"][0])
         status, output, _ = self.honduvi("best", "l", "--csv")
         self.assertEqual((status, output), (1, "refused,place\n12,0\n"))
@@ -166,8 +166,7 @@ class Explain(CommandTest):
             "save 1,441,792 (22.00 drop x transitions per clock cycle)",
             "gate 2 (fast): delay 1 + 2 = 3 (2 of 4 ticks)",
             "gate 3 (join): delay 2 + 3 = 5 (3 of 5 ticks)",
-            "with no spare tick 262,144 (4.00 ",
-            "with 10 or more 3,014,656 (46.00 ",
+            "with no spare tick 262,144 can be saved, with 10 or more 3,014,656",
         ):
             self.assertIn(words, output)
         self.assertNotIn("gate 1 (slow): delay", output)

@@ -68,6 +68,12 @@ class Calls(unittest.TestCase):
             self.assertRaises(ValueError, self.library.fewest_ticks, D, wanted)
 
 
+class Missing(unittest.TestCase):
+    def test_a_library_that_is_not_there_is_said_in_words(self):
+        with self.assertRaisesRegex(OSError, "^no/such.so is not there; .* make it$"):
+            Library("no/such.so")
+
+
 class Found(unittest.TestCase):
     """The tool's own times and paths are those of the proved calls."""
 

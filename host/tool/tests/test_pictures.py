@@ -6,8 +6,9 @@ import xml.etree.ElementTree as ElementTree
 from dataclasses import dataclass
 from pathlib import Path
 
+from block_picture import block_picture
+from curve_picture import curve_picture
 from netlist import Gate, Netlist, Step, Wire, decode
-from pictures import block_picture, curve_picture
 from timing import times
 
 SVG = "{http://www.w3.org/2000/svg}"

@@ -247,6 +247,8 @@ class DropsAndWires(Words):
         one = f"1 byte follows the 256th wire, from byte {at} on; a file has at most 256 wires"
         self.refused(file + b"\3", 7, at, one)
         self.refused(file + wire(0, 1), 7, at, one.replace("1 byte follows", "5 bytes follow"))
+        read = file.ljust(8_192, b"\3")
+        self.refused(read, 7, at, one.replace("1 byte follows", f"{8_192 - at} bytes or more follow"))
         self.general(file, 7, at)
         self.general(file[:-5] + wire(0, 1), 7, at - 5)
 
