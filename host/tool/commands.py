@@ -1,10 +1,8 @@
 """The command scripts/honduvi: tables, words and pictures of a block, every answer from the proved calls."""
 
-import csv
-import json
 import os
 import sys
-from argparse import ArgumentTypeError
+from contextlib import contextmanager
 from pathlib import Path
 
 import building
@@ -19,6 +17,7 @@ from importing import import_json
 from inputs import ACCEPTED, REFUSED, NoAnswer
 from naming import CannotImport
 from netlist import MAX_TIME, decode
+from proposals import increase, read_increases
 from tables import Answer, Table, refused
 from words import refusal_in_words, shown
 
@@ -36,7 +35,6 @@ gcc); the environment variable HONDUVI_LIBRARY names a shared library that is us
 
 # a JSON of yosys for a block of 64 gates has some 100 KB
 MAX_JSON = 1 << 26
-MAX_LIST = 1 << 20
 
 
 def library():
@@ -104,7 +102,11 @@ def curve(block, options):
 
 
 def judge(block, options):
-    return Answer({"saving": block.library.judge(block.file, options.increases)})
+    saving = block.library.judge(block.file, options.increases)
+    beyond = len(options.increases) - len(block.netlist.gates)
+    if beyond > 0:
+        inputs.say(f"{shown(options.file)}: the list has {beyond} more than there are gates, which are not read")
+    return Answer({"saving": saving})
 
 
 def ticks(block, options):
@@ -139,26 +141,12 @@ def answer(options):
 
 
 def proposed(options):
-    """The list of increases to be judged: of the command line, or of a file as `best` writes it or with numbers alone."""
+    """The list of increases to be judged, of the command line or of a file."""
     if options.list is None:
         return options.increase
     if options.increase:
         raise NoAnswer("increases are given on the command line and with --list")
-    text = inputs.read_bytes(options.list, MAX_LIST).decode(errors="replace")
-    try:
-        return [number_below(1 << 32)(str(word)) for word in listed(text)]
-    except (ValueError, TypeError, KeyError, RecursionError, csv.Error, ArgumentTypeError) as reason:
-        raise NoAnswer(f"{shown(options.list)}: no list of increases: {shown(str(reason))}") from None
-
-
-def listed(text):
-    """The increases in a text: JSON or CSV as `best` writes them, or numbers with blanks or commas between them."""
-    if text.lstrip().startswith("{"):
-        return [row["increase"] for row in json.loads(text)["list"]]
-    lines = text.splitlines()
-    if lines and "increase" in lines[0].split(","):
-        return [row["increase"] for row in csv.DictReader(lines)]
-    return text.replace(",", " ").split()
+    return read_increases(options.list)
 
 
 def explain(options):
@@ -216,16 +204,21 @@ def to_text(options):
     return ACCEPTED
 
 
+@contextmanager
+def reasons_of(name):
+    """Why there is no block is told with the name of the file in front."""
+    try:
+        yield
+    except CannotImport as reason:
+        raise NoAnswer(f"{shown(name)}: {reason}") from None
+
+
 def import_netlist(options):
-    try:
-        cells = read_cells(inputs.read_bytes(options.cells, description.MAX_DESCRIPTION).decode())
-    except (CannotImport, UnicodeDecodeError) as reason:
-        raise NoAnswer(f"{shown(options.cells)}: {reason}") from None
-    try:
-        text = inputs.read_bytes(options.file, MAX_JSON).decode()
+    with reasons_of(options.cells):
+        cells = read_cells(inputs.read_text(options.cells, description.MAX_DESCRIPTION))
+    with reasons_of(options.file):
+        text = inputs.read_text(options.file, MAX_JSON)
         found = import_json(text, cells, options.module, options.arrival, options.deadline)
-    except (CannotImport, UnicodeDecodeError) as reason:
-        raise NoAnswer(f"{shown(options.file)}: {reason}") from None
     for note in found.notes:
         inputs.say(f"{shown(options.file)}: {note}")
     inputs.write(options.output, description.write(found.netlist).encode())
@@ -262,7 +255,7 @@ def add_answers(command):
     answering("slacks", slacks, "the slack of each gate before increases", is_table=True)
     answering("curve", curve, "the saving for every number of spare ticks, as pairs of width and gain", is_table=True)
     judging = answering("judge", judge, "the verdict on a list of increases, one for each gate")
-    judging.add_argument("increase", metavar="INCREASE", nargs="*", type=number_below(1 << 32))
+    judging.add_argument("increase", metavar="INCREASE", nargs="*", type=increase)
     judging.add_argument("--list", metavar="FILE", help="the list from a file: numbers, or what best --csv or --json wrote")
     reaching = answering("ticks", ticks, "the fewest spare ticks with which some list saves at least WANTED")
     reaching.add_argument("wanted", metavar="WANTED", type=number_below(1 << 64))

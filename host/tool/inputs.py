@@ -57,6 +57,14 @@ def read_bytes(name, most):
     return data
 
 
+def read_text(name, most):
+    """The same of a file that is text."""
+    try:
+        return read_bytes(name, most).decode("utf-8-sig")
+    except UnicodeDecodeError as error:
+        raise NoAnswer(f"{shown(name)}: this is no text: byte {error.start} is not UTF-8") from None
+
+
 def of_description(name, data):
     """The input that a description says."""
     try:

@@ -127,6 +127,18 @@ class Judge(CommandTest):
         table = self.honduvi("best", commas, "--csv")[1].encode()
         self.held(self.honduvi("judge", commas, "--list", "-", given=table), 0, f"saving {44 * U}\n")
 
+    def test_a_table_in_any_order_of_the_gates(self):
+        table = "increase,gate\n3,3\n0,0\n2,2\n0,1\n"
+        self.held(self.honduvi("judge", "d.text", "--list", self.write("t", table)), 0, f"saving {44 * U}\n")
+        for wrong in (table.replace("2,2", "2,1"), table.replace("3,3", "3,4"), table.replace("0,1\n", "")):
+            status, output, errors = self.honduvi("judge", "d.text", "--list", self.write("t", wrong))
+            self.assertEqual((status, output), (2, ""))
+            self.assertIn("its gates are not 0 to", errors)
+
+    def test_increases_beyond_the_gates_are_told(self):
+        found = self.honduvi("judge", "d.text", "0", "0", "2", "3", "9", "9")
+        self.held(found, 0, f"saving {44 * U}\n", "d.text: the list has 2 more than there are gates, which are not read\n")
+
     def test_lists_that_are_none(self):
         for text in (
             "0 0 x 3",
@@ -250,6 +262,53 @@ class Conversion(CommandTest):
         ]:
             self.write("x.text", text)
             self.held(self.honduvi("to-block", "x.text"), 2, "", f"scripts/honduvi: {right}\n")
+
+
+class Import(CommandTest):
+    MATCH, ADDER = ROOT / "examples/yosys/match.json", ROOT / "examples/yosys/adder.json"
+    CELLS = (ROOT / "examples/yosys/match.cells").read_text()
+
+    def imported(self, cells, *arguments, file=MATCH):
+        return self.honduvi("import", file, "--cells", self.write("t.cells", cells), *arguments)
+
+    def test_a_netlist_becomes_a_description(self):
+        status, output, errors = self.imported(self.CELLS, "--deadline", "25", "--arrival", "1")
+        self.assertEqual((status, errors), (0, ""))
+        lines = output.splitlines()
+        self.assertEqual(lines[0], "block arrival 1 deadline 25 p 0")
+        self.assertEqual(lines[8], "gate 7 name addr[6] delay 0 p 64")
+        self.assertEqual(lines[36], "gate 35 name join delay 0 p 0")
+        self.held(
+            self.honduvi("best", "-", "--csv", given=output.encode()),
+            0,
+            self.honduvi("best", self.write("m", output), "--csv")[1],
+        )
+
+    def test_notes(self):
+        status, _, errors = self.imported(self.CELLS)
+        self.assertEqual(status, 0)
+        self.assertIn("match.json: no deadline given: 19 is taken", errors)
+
+    def test_what_cannot_be_imported(self):
+        self.write("bytes", b"{\xff")
+        for cells, file, right in [
+            (
+                self.CELLS.replace("cell $_NOT_ ", "cell X "),
+                self.MATCH,
+                "match.json: types that are not in the table: $_NOT_ (cell u15)",
+            ),
+            (self.CELLS + "cell $_NOT_ delay 1\n", self.MATCH, "t.cells: line 27: cell $_NOT_ stood before, in line 2"),
+            (self.CELLS, "bytes", "scripts/honduvi: bytes: this is no text: byte 1 is not UTF-8"),
+            (self.CELLS, "d.text", "d.text: this is no JSON: line 1, column 1"),
+            (self.CELLS, "missing", "scripts/honduvi: missing: No such file or directory"),
+        ]:
+            status, output, errors = self.imported(cells, file=file)
+            self.assertEqual((status, output), (2, ""))
+            self.assertIn(right, errors)
+
+    def test_an_adder_is_not_series_parallel(self):
+        self.honduvi("import", self.ADDER, "--cells", ROOT / "examples/yosys/adder.cells", "-o", "a.text")
+        self.refused(self.honduvi("best", "a.text"), 11, 1, "not series-parallel at gate 1 (a[0])")
 
 
 class NoAnswer(CommandTest):
