@@ -287,6 +287,7 @@ def add_pictures_and_forms(command):
 
 def run(arguments):
     options = parser().parse_args(arguments)
+    inputs.check_names([getattr(options, name, None) for name in ("file", "list", "cells")])
     return options.run(options)
 
 

@@ -42,6 +42,12 @@ def _standard(stream, name):
     return stream.buffer
 
 
+def check_names(names):
+    """Standard input can be read once only."""
+    if names.count("-") > 1:
+        raise NoAnswer("standard input (-) can stand for one file alone")
+
+
 def _opened(name):
     if name == "-":
         return contextlib.nullcontext(_standard(sys.stdin, "standard input"))

@@ -61,6 +61,7 @@ def run(arguments):
     parser = Parser(prog="scripts/resize", description=HELP)
     parser.add_argument("files", metavar="FILE", nargs="+")
     names = parser.parse_args(arguments).files
+    inputs.check_names(names)
     try:
         program = building.program()
     except building.NotBuilt as reason:

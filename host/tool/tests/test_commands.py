@@ -330,6 +330,11 @@ class NoAnswer(CommandTest):
             self.assertTrue(errors, arguments)
             self.assertTrue(errors.replace("\n", "").isprintable(), errors)
 
+    def test_standard_input_for_two_files(self):
+        for arguments in (["judge", "-", "--list", "-"], ["import", "-", "--cells", "-"]):
+            found = self.honduvi(*arguments, given=DIAMOND.encode())
+            self.held(found, 2, "", "scripts/honduvi: standard input (-) can stand for one file alone\n")
+
     def test_help_of_every_command(self):
         for command in ("best", "slacks", "curve", "judge", "ticks", "explain", "draw", "to-block", "to-text", "import"):
             self.assertIn(command, self.honduvi("--help")[1])

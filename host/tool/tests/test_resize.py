@@ -87,6 +87,10 @@ class NoAnswer(ScriptTest):
             self.assertEqual((status, output), (2, ""))
             self.assertIn("usage: scripts/resize", errors)
 
+    def test_standard_input_twice(self):
+        found = self.run_script("resize", "-", "-", given=D)
+        self.held(found, 2, "", "scripts/resize: standard input (-) can stand for one file alone\n")
+
     def test_files_that_cannot_be_read(self):
         self.held(self.run_script("resize", "missing"), 2, "", "scripts/resize: missing: No such file or directory\n")
         self.held(self.run_script("resize", "."), 2, "", "scripts/resize: .: Is a directory\n")
