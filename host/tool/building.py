@@ -15,8 +15,9 @@ TARGET = ROOT / "target"
 PROGRAM = TARGET / "bin" / "resize"
 ARCHIVE = TARGET / "staticlib" / "liblayout.a"
 LIBRARY = TARGET / "host" / "libhonduvi.so"
-# what `rt` says of a crate
+# what `rt` says of a crate that it has proved, and of a library that it has proved and written
 PROVED = re.compile(r"rt: (\S+) proved \((.*)\)$")
+WRITTEN = re.compile(r"rt: target/staticlib/lib(\S+)\.a has ")
 
 
 class NotBuilt(Exception):
@@ -58,11 +59,18 @@ def is_stale(product, stamp, files):
     return not product.exists() or any(changed(file) > max(changed(product), changed(stamp)) for file in files)
 
 
-def told(line, count, total, began):
-    """What the person is told of a line of the toolchain's, if it is about a crate."""
-    crate, took = PROVED.match(line).groups()
+def crate_of(line):
+    """The crate that a line of the toolchain's says is proved, and how long that took; None if it says no such thing."""
+    proved, written = PROVED.match(line), WRITTEN.match(line)
+    if proved:
+        crate, took = proved.groups()
+        return crate, "as before" if "unchanged" in took else took
+    return (written.group(1), "written as a library") if written else None
+
+
+def told(crate, took, count, total, began):
+    """What the person is told of a crate."""
     so_far = int(time.monotonic() - began)
-    took = "as before" if "unchanged" in took else took
     return f"[{count:2}/{total}] {crate} proved, {took}; {so_far // 60}:{so_far % 60:02} so far"
 
 
@@ -74,9 +82,10 @@ def follow(command, log, total, say):
         run = subprocess.Popen(command, cwd=ROOT, text=True, errors="replace", **streams)
         for line in run.stdout:
             stream.write(line)
-            if PROVED.match(line.rstrip()):
+            crate = crate_of(line.rstrip())
+            if crate:
                 count += 1
-                say(told(line.rstrip(), count, total, began))
+                say(told(*crate, count, total, began))
         return run.wait()
 
 

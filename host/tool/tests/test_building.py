@@ -9,7 +9,7 @@ import time
 import unittest
 from pathlib import Path
 
-from building import ROOT, needs
+from building import ROOT, crate_of, needs
 
 # proves three crates and writes a program that refuses everything; where `fails` stands, it fails
 TOOLCHAIN = """#!/bin/sh
@@ -119,6 +119,11 @@ class FirstRun(unittest.TestCase):
         run = self.resize()
         self.assertEqual((run.returncode, run.stderr), (2, "scripts/resize: rt, the Rattle kit's command, is not installed\n"))
         (self.tools / "python3").unlink()
+        (self.tools / "python3").write_text("#!/bin/sh\nexit 1\n")
+        (self.tools / "python3").chmod(0o755)
+        run = self.resize()
+        self.assertEqual((run.returncode, run.stderr), (2, "scripts/resize: python3 is too old; 3.9 or newer is needed\n"))
+        (self.tools / "python3").unlink()
         run = self.resize()
         self.assertEqual((run.returncode, run.stderr), (2, "scripts/resize: python3 is not installed\n"))
 
@@ -126,6 +131,16 @@ class FirstRun(unittest.TestCase):
         (self.root / "link").symlink_to(self.root / "scripts" / "resize")
         (self.root / "second").symlink_to("link")
         self.assertEqual(self.resize("second").stdout, "refused 1 0\n")
+
+
+class Lines(unittest.TestCase):
+    def test_which_lines_of_the_toolchain_are_about_a_crate(self):
+        self.assertEqual(crate_of("rt: model proved (4 s)"), ("model", "4 s"))
+        self.assertEqual(crate_of("rt: model proved (unchanged since it was last proved)"), ("model", "as before"))
+        written = "rt: target/staticlib/liblayout.a has the functions of layout that are marked"
+        self.assertEqual(crate_of(written), ("layout", "written as a library"))
+        for line in ("rt: model NOT PROVED (exit 1, 3 s)", "note: rt: model proved (4 s)", "rt: ok, 34 crates proved", ""):
+            self.assertIsNone(crate_of(line))
 
 
 class Needs(unittest.TestCase):

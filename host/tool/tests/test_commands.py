@@ -168,6 +168,17 @@ class Ticks(CommandTest):
         self.assertEqual(self.honduvi("ticks", "d.text", str(2**64))[0], 2)
 
 
+class Forms(CommandTest):
+    def test_docs_name_every_value_and_column(self):
+        lines = (ROOT / "docs" / "FORMAT.md").read_text().splitlines()
+        for command, *arguments in (["best"], ["slacks"], ["curve"], ["judge", "0", "0", "0", "0"], ["ticks", "1"]):
+            found = self.json_of(command, "d.text", *arguments)
+            tables = [rows for rows in found.values() if isinstance(rows, list)]
+            row = next(line for line in lines if line.startswith(f"| `{command}` |"))
+            named = re.findall(r"`(\w+)`", row)[1:]
+            self.assertEqual(named, [*found, *(column for rows in tables for column in rows[0])])
+
+
 class Explain(CommandTest):
     def test_a_block(self):
         status, output, errors = self.honduvi("explain", "d.text")
