@@ -3,7 +3,7 @@
      calls curve FILE              start and saving at start, then the width and the gain of each pair
      calls judge FILE INCREASE...  what a list of increases saves, one for each gate
      calls ticks FILE WANTED       the fewest spare ticks with which some list saves so much
-   A refusal is printed with its place, and the status is 1. */
+   A refusal is printed with its place, and the status is 1; it is 2 where there is no answer. */
 
 #include "block_file.h"
 #include "honduvi.h"
@@ -90,16 +90,20 @@ static int ticks(const char *word)
 
 int main(int count, char **words)
 {
-    if (count < 3)
+    const char *call = count < 3 ? "" : words[1];
+    int is_slacks = strcmp(call, "slacks") == 0 && count == 3;
+    int is_curve = strcmp(call, "curve") == 0 && count == 3;
+    int is_judge = strcmp(call, "judge") == 0;
+    int is_ticks = strcmp(call, "ticks") == 0 && count == 4;
+
+    if (!is_slacks && !is_curve && !is_judge && !is_ticks)
         return usage();
     length = read_block_file(words[2], file);
-    if (strcmp(words[1], "slacks") == 0 && count == 3)
+    if (is_slacks)
         return written(slacks());
-    if (strcmp(words[1], "curve") == 0 && count == 3)
+    if (is_curve)
         return written(curve());
-    if (strcmp(words[1], "judge") == 0)
+    if (is_judge)
         return written(judge(count - 3, words + 3));
-    if (strcmp(words[1], "ticks") == 0 && count == 4)
-        return written(ticks(words[3]));
-    return usage();
+    return written(ticks(words[3]));
 }

@@ -1,4 +1,4 @@
-/* The library's calls on a block file. Link with liblayout.a (x86-64). docs/FORMAT.md has the file's bytes. */
+/* The library's calls on a block file. Link with liblayout.a or libhonduvi.so (x86-64). docs/FORMAT.md has the file's bytes. */
 
 #ifndef HONDUVI_H
 #define HONDUVI_H
@@ -11,14 +11,17 @@ extern "C" {
 #endif
 
 /* Every call reads the block file of file_len bytes, of edition 1, 2 or 3, and returns its answer by value. number 0:
-   accepted. Any other number: refused; place says where, all else in the answer is 0, and no lent element is changed. A call
-   that gets several refusals returns the first of its line:
+   accepted. Any other number: refused; place says where, all else in the answer is 0, and no lent element is changed. Where
+   several refusals fit, that of the first field at fault comes first; within a field 7, a header cut short (1), 2, 3, a body
+   cut short (1), 4, 5, 6. Behind the fields the first that fits in the call's line:
 
-     best increases  1 to 9, 10, 11, 12
-     slacks          1 to 9, 10
-     curve           1 to 9, 10, 11
-     judge           1 to 9, 10, 13, 14
-     fewest ticks    1 to 9, 11, 17
+     best increases  8, 9, 10, 11, 12
+     slacks          8, 9, 10
+     curve           8, 9, 10, 11
+     judge           8, 9, 10, 13, 14
+     fewest ticks    8, 9, 11, 17
+
+   A byte offset is that of the field's tag, or the end of the file where no byte is left.
 
     1  place: byte offset   a due block or gate field is missing, or a header or body passes the end
     2  place: byte offset   the tag is not the one due
@@ -40,8 +43,8 @@ extern "C" {
 
    Memory: file_len is in bytes, every other length in elements of the pointer's type. A null pointer is allowed with length 0
    only. Pointers to int32_t and uint32_t are aligned to 4 bytes. The areas of one call may not overlap. A call writes what is
-   said of it below and nothing else; it keeps nothing, allocates nothing and always returns. 64 KiB of stack are enough, by
-   measurement. */
+   said of it below and nothing else; it keeps nothing, allocates nothing and always returns, so that several threads may call
+   at once. 64 KiB of stack are enough, by measurement. */
 
 /* best increases: place n, the saving. slacks: place n, saving 0. judge: place 0, the saving. */
 typedef struct {

@@ -1,4 +1,4 @@
-"""Honduvi's proved calls from Python, over the shared library that `host/run build` makes (target/host/libhonduvi.so).
+"""Honduvi's proved calls from Python, over the shared library that `host/run shared` makes (target/host/libhonduvi.so).
 
     import honduvi
     library = honduvi.Library()
@@ -7,7 +7,8 @@
     print(best.saving, best.increases)
 
 A refusal is raised as `Refused`, with its number and place. host/include/honduvi.h says what each number means, docs/FORMAT.md
-what bytes a block file has. This file needs nothing but the library: both can be copied.
+what bytes a block file has. This file needs nothing but the library: both can be copied to one folder. Elsewhere
+`Library(path)` or the environment variable HONDUVI_LIBRARY says where the library is.
 """
 
 import ctypes
@@ -15,21 +16,37 @@ import os
 from collections import namedtuple
 from ctypes import POINTER, c_char_p, c_int32, c_size_t, c_uint8, c_uint32, c_uint64
 
+NAME = "libhonduvi.so"
 MAX_GATES = 64
 MAX_PAIRS = 512
 
 Best = namedtuple("Best", "saving increases")
-# pairs are (width, gain)
-Curve = namedtuple("Curve", "start at_start pairs")
+
+
+class Curve(namedtuple("Curve", "start at_start pairs")):
+    """Start, the saving at start, and the pairs (width, gain)."""
+
+    @property
+    def ticks(self):
+        """The spare ticks beyond which nothing more is saved."""
+        return sum(width for width, _ in self.pairs)
+
+    @property
+    def most(self):
+        """The saving with so many ticks."""
+        return self.at_start + sum(width * gain for width, gain in self.pairs)
 
 
 class Refused(Exception):
     """The file, the list or the wanted saving was refused."""
 
     def __init__(self, number, place):
-        super().__init__(f"refused {number} {place}")
+        super().__init__(number, place)
         self.number = number
         self.place = place
+
+    def __str__(self):
+        return f"refused {self.number} {self.place}"
 
 
 class _Answer(ctypes.Structure):
@@ -55,46 +72,50 @@ _CALLS = {
 }
 
 
-def _accepted(answer):
-    if answer.number != 0:
-        raise Refused(answer.number, answer.place)
-    return answer
-
-
 def default_path():
-    """The library that HONDUVI_LIBRARY names, else the one that `host/run build` makes in this repository."""
-    root = os.path.join(os.path.dirname(os.path.realpath(__file__)), "..", "..")
-    return os.environ.get("HONDUVI_LIBRARY") or os.path.normpath(os.path.join(root, "target", "host", "libhonduvi.so"))
+    """The library that HONDUVI_LIBRARY names, else the one beside this file, else the one that `host/run shared` makes."""
+    here = os.path.dirname(os.path.realpath(__file__))
+    beside = os.path.join(here, NAME)
+    built = os.path.normpath(os.path.join(here, "..", "..", "target", "host", NAME))
+    return os.environ.get("HONDUVI_LIBRARY") or (beside if os.path.exists(beside) else built)
 
 
 class Library:
-    """The calls of one shared library. `file` is the bytes of a block file; any bytes may be handed over."""
+    """The calls of one shared library. `file` is the bytes of a block file, as bytes, bytearray or memoryview; any bytes may be
+    handed over."""
 
     def __init__(self, path=None):
         path = path or default_path()
         if not os.path.exists(path):
             raise OSError(f"{path} is not there; in Honduvi's repository 'rt staticlib layout' and 'host/run shared' make it")
-        self._library = ctypes.CDLL(path)
+        self._library = ctypes.CDLL(os.path.abspath(path))
         for name, (answer, arguments) in _CALLS.items():
             function = getattr(self._library, name)
             function.restype, function.argtypes = answer, arguments
 
+    def _call(self, name, file, *arguments):
+        file = bytes(memoryview(file))
+        answer = getattr(self._library, f"honduvi_{name}")(file, len(file), *arguments)
+        if answer.number != 0:
+            raise Refused(answer.number, answer.place)
+        return answer
+
     def best_increases(self, file):
         """The best list of delay increases, one for each gate, and its saving."""
         lent = (c_uint8 * (4 * MAX_GATES))()
-        answer = _accepted(self._library.honduvi_best_increases(file, len(file), lent, len(lent)))
+        answer = self._call("best_increases", file, lent, len(lent))
         increases = [int.from_bytes(lent[4 * gate : 4 * gate + 4], "big") for gate in range(answer.place)]
         return Best(answer.saving, increases)
 
     def slacks(self, file):
         """The slack of each gate before increases."""
         lent = (c_int32 * MAX_GATES)()
-        return lent[: _accepted(self._library.honduvi_slacks(file, len(file), lent, len(lent))).place]
+        return lent[: self._call("slacks", file, lent, len(lent)).place]
 
     def curve(self, file):
         """The saving curve: start, saving at start, and the pairs (width, gain)."""
         widths, gains = (c_uint32 * MAX_PAIRS)(), (c_uint32 * MAX_PAIRS)()
-        answer = _accepted(self._library.honduvi_curve(file, len(file), widths, MAX_PAIRS, gains, MAX_PAIRS))
+        answer = self._call("curve", file, widths, MAX_PAIRS, gains, MAX_PAIRS)
         return Curve(answer.start, answer.at_start, list(zip(widths[: answer.pairs], gains[: answer.pairs])))
 
     def judge(self, file, increases):
@@ -102,10 +123,10 @@ class Library:
         if any(not 0 <= increase < 1 << 32 for increase in increases):
             raise ValueError("an increase has 32 bits")
         lent = (c_uint32 * len(increases))(*increases)
-        return _accepted(self._library.honduvi_judge(file, len(file), lent, len(lent))).saving
+        return self._call("judge", file, lent, len(lent)).saving
 
     def fewest_ticks(self, file, wanted):
         """The fewest spare ticks with which some list saves at least `wanted`, 0 to 2^64 - 1."""
         if not 0 <= wanted < 1 << 64:
             raise ValueError("a wanted saving has 64 bits")
-        return _accepted(self._library.honduvi_fewest_ticks(file, len(file), wanted)).ticks
+        return self._call("fewest_ticks", file, wanted).ticks

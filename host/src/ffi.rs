@@ -1,5 +1,7 @@
 //! The library's calls as Rust sees them, and safe functions over them; host/include/honduvi.h says more of each. This file needs
-//! no other of host/. The functions are made where they are called, so that a program that calls none needs no library.
+//! no other of host/, and is of Rust's edition 2021. The functions are made where they are called, so that a program that calls
+//! none needs no library.
+#![allow(dead_code)]
 
 /// What best increases, slacks and judging return: number 0 with the gate count (0 where a list is judged) and the saving (0 with
 /// slacks), or a refusal with its place; all else is 0.

@@ -8,6 +8,7 @@ import shutil
 import subprocess
 import sys
 import time
+from contextlib import contextmanager
 from pathlib import Path
 
 ROOT = Path(__file__).resolve().parents[2]
@@ -93,6 +94,15 @@ def say_to_stderr(line):
     print(line, file=sys.stderr, flush=True)
 
 
+@contextmanager
+def alone():
+    """Where several commands run at once, one builds and the others wait for it."""
+    (TARGET / "tool").mkdir(parents=True, exist_ok=True)
+    with open(TARGET / "tool" / "lock", "w") as lock:
+        fcntl.flock(lock, fcntl.LOCK_EX)
+        yield
+
+
 def prove(crate, command, product, say=say_to_stderr):
     """Proves a crate and what it needs with a command that makes the product, unless that is up to date."""
     crates = needs(ROOT, crate)
@@ -103,9 +113,7 @@ def prove(crate, command, product, say=say_to_stderr):
         raise NotBuilt("rt, the Rattle kit's command, is not installed")
     if not (ROOT / "crates" / crate).is_dir():
         raise NotBuilt(f"crates/{crate} is not there")
-    stamp.parent.mkdir(parents=True, exist_ok=True)
-    with open(TARGET / "tool" / "lock", "w") as lock:
-        fcntl.flock(lock, fcntl.LOCK_EX)
+    with alone():
         if not is_stale(product, stamp, sources(ROOT, crates)):
             return
         log = TARGET / "tool" / f"{crate}.log"
@@ -127,7 +135,10 @@ def library():
     """The shared library, up to date."""
     prove("layout", ["rt", "staticlib", "layout"], ARCHIVE)
     if is_stale(LIBRARY, LIBRARY, [ARCHIVE]):
-        made = subprocess.run([ROOT / "host" / "run", "shared"], capture_output=True, text=True)
+        with alone():
+            made = subprocess.run(
+                [ROOT / "host" / "run", "shared"], stdout=subprocess.PIPE, stderr=subprocess.STDOUT, text=True
+            )
         if made.returncode != 0:
-            raise NotBuilt(made.stdout.strip().splitlines()[-1] if made.stdout.strip() else "host/run shared failed")
+            raise NotBuilt("; ".join(made.stdout.split("\n")[-4:]).strip("; ") or "host/run shared failed")
     return LIBRARY

@@ -101,7 +101,7 @@ def read_cells(text: str) -> Cells:
     """The table that a text says."""
     table = _Table()
     try:
-        for line, content in enumerate(text.removeprefix("\ufeff").split("\n"), 1):
+        for line, content in enumerate(text.split("\n"), 1):
             table.line(Words(line, content))
     except Fault as fault:
         raise CannotImport(f"line {fault.line}: {fault}") from None

@@ -2,6 +2,7 @@
 
 import os
 import sys
+from argparse import ArgumentTypeError
 from contextlib import contextmanager
 from pathlib import Path
 
@@ -19,16 +20,19 @@ from naming import CannotImport
 from netlist import MAX_TIME, decode
 from proposals import increase, read_increases
 from tables import Answer, Table, refused
-from words import refusal_in_words, shown
+from text import counted, shown
+from words import refusal_in_words
 
 sys.path.append(str(Path(__file__).resolve().parents[1] / "python"))
 from honduvi import Library, Refused  # noqa: E402
 
-HELP = """Tables, words and pictures of a block, every answer from the proved calls. FILE is a block file or its description in
-text form (docs/FORMAT.md); - is standard input. 'scripts/honduvi COMMAND --help' says what a command takes.
+HELP = """Tables, words and pictures of a block, every saving, slack, increase and tick from the proved calls. FILE is a block
+file or its description in text form (docs/FORMAT.md); - is standard input. 'scripts/honduvi COMMAND --help' says what a command
+takes.
 
-status 0: accepted; 1: refused, with 'refused NUMBER PLACE' on standard output and the reason in words on standard error; 2: no
-answer (usage, a file that cannot be read, a description at fault, output that could not be written).
+status 0: accepted; 1: refused, with 'refused NUMBER PLACE' on standard output and the reason in words on standard error (all of
+it on standard output for explain, and on standard error where a picture or a description was asked for); 2: no answer (usage, a
+file that cannot be read, a description at fault, output that could not be written).
 
 The calls are proved and built first where they are missing or older than their sources (needs the Rattle kit's command rt, and
 gcc); the environment variable HONDUVI_LIBRARY names a shared library that is used as it is."""
@@ -66,8 +70,7 @@ class Block:
     def words(self, refusal, **known):
         """A refusal of this block in words."""
         if refusal.number == 17:
-            curve = self.library.curve(self.file)
-            known["most"] = curve.at_start + sum(width * gain for width, gain in curve.pairs)
+            known["most"] = self.library.curve(self.file).most
         return refusal_in_words(self.file, refusal.number, refusal.place, netlist=self.given.netlist, **known)
 
 
@@ -102,11 +105,12 @@ def curve(block, options):
 
 
 def judge(block, options):
-    saving = block.library.judge(block.file, options.increases)
-    beyond = len(options.increases) - len(block.netlist.gates)
-    if beyond > 0:
-        inputs.say(f"{shown(options.file)}: the list has {beyond} more than there are gates, which are not read")
-    return Answer({"saving": saving})
+    """The call reads as many increases as there are gates; a longer list is a mistaken one, such as a table without its head."""
+    block.library.slacks(block.file)
+    found, gates = len(options.increases), len(block.netlist.gates)
+    if found > gates:
+        raise NoAnswer(f"the list has {found} increases, the block {counted(gates, 'gate')}")
+    return Answer({"saving": block.library.judge(block.file, options.increases)})
 
 
 def ticks(block, options):
@@ -285,8 +289,22 @@ def add_pictures_and_forms(command):
     importing.add_argument("--deadline", metavar="TICKS", type=number_below(MAX_TIME + 1), help="else as early as it can be")
 
 
+def parsed(arguments):
+    """The options; increases may stand in front of other options and behind them."""
+    top = parser()
+    options, rest = top.parse_known_args(arguments)
+    try:
+        if rest and options.command != "judge":
+            raise ArgumentTypeError(f"{' '.join(rest)} was not expected")
+        if rest:
+            options.increase += [increase(word) for word in rest]
+    except ArgumentTypeError as reason:
+        top.error(str(reason))
+    return options
+
+
 def run(arguments):
-    options = parser().parse_args(arguments)
+    options = parsed(arguments)
     inputs.check_names([getattr(options, name, None) for name in ("file", "list", "cells")])
     return options.run(options)
 

@@ -18,7 +18,7 @@ from netlist import (
     max_switching,
     switching_word,
 )
-from words import shown
+from text import is_number, shown, value_up_to
 
 MAX_NAME = 64
 # a description of 64 gates and 256 wires takes some 12 KB; comments are free
@@ -74,12 +74,12 @@ class Words:
         return word
 
     def number(self, name, word, least, most):
-        if not (word.isascii() and word.isdigit()):
+        if not is_number(word):
             self.fault(f"{name}: a number was expected, not '{shown(word)}'")
-        digits = word.lstrip("0") or "0"
-        if len(digits) > len(str(most)) or not least <= int(digits) <= most:
+        value = value_up_to(word, most)
+        if not least <= value <= most:
             self.fault(f"{name} {shown(word)} is not {least} to {most}")
-        return int(digits)
+        return value
 
     def number_after(self, name, most, least=0):
         return self.number(name, self.needed(f"the number after '{name}'"), least, most)
@@ -136,12 +136,12 @@ class Words:
         return tuple(steps)
 
     def gate_of_wire(self, wire, word, gates):
-        if not (word.isascii() and word.isdigit()):
+        if not is_number(word):
             self.fault(f"wire {shown(wire)}: a gate's number was expected, not '{shown(word)}'")
-        digits = word.lstrip("0") or "0"
-        if len(digits) > 3 or int(digits) >= gates:
-            self.fault(f"wire {shown(wire)}: there is no gate {shown(digits)}")
-        return int(digits)
+        gate = value_up_to(word, gates - 1)
+        if gate == gates:
+            self.fault(f"wire {shown(wire)}: there is no gate {shown(word.lstrip('0') or '0')}")
+        return gate
 
     def wire(self, word, gates):
         """A wire, as from-to or from-to:delay, and whether a delay stands there."""
@@ -164,6 +164,7 @@ class _Reading:
         self.stated = None
         self.gates, self.gate_lines = [], {}
         self.wires, self.wire_lines = [], {}
+        self.has_wires_line = False
 
     def line(self, words):
         keyword = words.next()
@@ -207,14 +208,14 @@ class _Reading:
 
     def gate_line(self, words):
         due = len(self.gates)
-        if self.wires:
+        if self.has_wires_line:
             words.fault("gates must come before wires")
         if due == MAX_GATES:
             words.fault(f"more than {MAX_GATES} gates")
         word = words.needed("the gate's number")
-        if not (word.isascii() and word.isdigit()):
+        if not is_number(word):
             words.fault(f"gate: a number was expected, not '{shown(word)}'")
-        if (word.lstrip("0") or "0") != str(due):
+        if value_up_to(word, due) != due:
             words.fault(f"gate {due} is due here, not gate {shown(word)}")
         name = self.name(words)
         delay = words.named("delay", MAX_DELAY)
@@ -225,6 +226,7 @@ class _Reading:
         self.gates.append(Gate(delay, switching, words.steps(), name))
 
     def wires_line(self, words):
+        self.has_wires_line = True
         while words.words:
             word = words.next()
             wire, has_delay = words.wire(word, len(self.gates))

@@ -1,5 +1,6 @@
 """A block and its best increases in words."""
 
+from text import counted
 from timing import longest_path
 from words import path_in_words
 
@@ -26,13 +27,13 @@ def explained(block):
     curve = block.library.curve(block.file)
     netlist = block.netlist
     spare, none = block.spare(curve.start), [0] * len(netlist.gates)
-    most_ticks = sum(width for width, _ in curve.pairs)
-    most = curve.at_start + sum(width * gain for width, gain in curve.pairs)
+    gates, wires = counted(len(netlist.gates), "gate"), counted(len(netlist.wires), "wire")
+    path = path_in_words(netlist, longest_path(netlist, none))
     return [
-        f"{len(netlist.gates)} gates, {len(netlist.wires)} wires; arrival {netlist.arrival}, deadline {netlist.deadline}",
-        f"the longest path without increases lasts {curve.start} ticks: {path_in_words(netlist, longest_path(netlist, none))}",
-        f"{spare} spare ticks are left to the deadline",
+        f"{gates}, {wires}; arrival {netlist.arrival}, deadline {netlist.deadline}",
+        f"the longest path without increases lasts {counted(curve.start, 'tick')}: {path}",
+        f"{counted(spare, 'tick')} to spare up to the deadline",
         f"the best increases save {per_cycle(best.saving)}; {PROVED}",
         *(sized(netlist, best.increases) if any(best.increases) else ["  no gate is slowed"]),
-        f"with no spare tick {curve.at_start:,} can be saved, with {most_ticks} or more {most:,}",
+        f"with no spare tick {curve.at_start:,} can be saved, with {curve.ticks} or more {curve.most:,}",
     ]

@@ -14,8 +14,8 @@ from cells import Cells, CellType
 from description import MAX_NAME
 from naming import CannotImport, clean, listed, short
 from netlist import MAX_GATES, MAX_TIME, MAX_WIRES, Gate, Netlist, Wire
+from text import shown
 from timing import times
-from words import shown
 from yosys import TO_GATES, chosen_name, is_net, read_module, read_modules
 
 # so much of a name that is longer than a gate's stands in a note

@@ -3,11 +3,12 @@
 import contextlib
 import os
 import sys
+import traceback
 from dataclasses import dataclass
 
 import description
 from netlist import MAX_BYTES, encode
-from words import shown
+from text import shown
 
 ACCEPTED, REFUSED, NO_ANSWER = 0, 1, 2
 
@@ -18,9 +19,8 @@ class NoAnswer(Exception):
 
 @dataclass(frozen=True)
 class Input:
-    """A block file with its name; and, where it came from a description, the netlist with the names of gates."""
+    """A block file; and, where it came from a description, the netlist with the names of gates."""
 
-    name: str
     file: bytes
     netlist: object = None
 
@@ -77,7 +77,7 @@ def of_description(name, data):
         netlist = description.read(data)
     except description.Fault as fault:
         raise NoAnswer(fault.at(shown(name))) from None
-    return Input(name, encode(netlist), netlist)
+    return Input(encode(netlist), netlist)
 
 
 def read(name):
@@ -87,7 +87,7 @@ def read(name):
         is_text = description.is_description(data)
         if is_text:
             data += stream.read(description.MAX_DESCRIPTION)
-    return of_description(name, data) if is_text else Input(name, data)
+    return of_description(name, data) if is_text else Input(data)
 
 
 def write(name, data):
@@ -122,4 +122,11 @@ def ended(name, run):
             say(f"{name}: {reason}")
         return NO_ANSWER
     except KeyboardInterrupt:
+        return NO_ANSWER
+    except OSError as error:
+        say(f"{name}: {shown(str(error), 200)}")
+        return NO_ANSWER
+    except Exception:
+        # a fault of the tool itself must not look like a refusal
+        say(f"{name}: this should not happen:\n{traceback.format_exc()}")
         return NO_ANSWER

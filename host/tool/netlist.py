@@ -92,11 +92,6 @@ class Netlist:
         name = self.gates[gate].name
         return f"gate {gate} ({name})" if name else f"gate {gate}"
 
-    def with_names(self, names):
-        """The same netlist with these names of the gates."""
-        gates = tuple(Gate(g.delay, g.switching, g.steps, name) for g, name in zip(self.gates, names))
-        return Netlist(self.edition, self.arrival, self.deadline, self.switching, gates, self.wires)
-
 
 def number(data, at):
     """The number of two bytes at an offset, high byte first."""

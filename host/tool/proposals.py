@@ -7,7 +7,7 @@ from argparse import ArgumentTypeError
 import inputs
 from arguments import number_below
 from inputs import NoAnswer
-from words import shown
+from text import shown
 
 MAX_LIST = 1 << 20
 
@@ -19,7 +19,9 @@ def read_increases(name):
     text = inputs.read_text(name, MAX_LIST)
     try:
         return [increase(word) for word in words_of(text)]
-    except (ValueError, TypeError, KeyError, RecursionError, csv.Error, ArgumentTypeError) as reason:
+    except KeyError as missing:
+        raise NoAnswer(f"{shown(name)}: no list of increases: {missing} is missing") from None
+    except (ValueError, TypeError, RecursionError, csv.Error, ArgumentTypeError) as reason:
         raise NoAnswer(f"{shown(name)}: no list of increases: {shown(str(reason))}") from None
 
 
@@ -28,8 +30,10 @@ def words_of(text):
     if text.lstrip().startswith("{"):
         return by_gate(json.loads(text)["list"])
     lines = text.splitlines()
-    if lines and "increase" in lines[0].split(","):
-        return by_gate(list(csv.DictReader(lines)))
+    # spreadsheets write semicolons in some countries
+    rows = csv.DictReader(lines, delimiter=";" if lines and ";" in lines[0] else ",")
+    if "increase" in (rows.fieldnames or ()):
+        return by_gate(list(rows))
     return text.replace(",", " ").split()
 
 

@@ -8,7 +8,8 @@ import building
 import inputs
 from arguments import Parser
 from inputs import ACCEPTED, REFUSED, NoAnswer
-from words import refusal_in_words, shown
+from text import shown
+from words import refusal_in_words
 
 HELP = """The best increases of block files. FILE is a block file or its description in text form (docs/FORMAT.md); - is standard
 input. With several files the name of each stands in front of its lines.

@@ -1,5 +1,5 @@
-"""A refusal in words for a designer. The proved library decides its number and place; here the details are found: which number
-of which field, along which path, which gates.
+"""A refusal in words for a designer. The proved library decides its number and place; here the details are found: along which
+path, which gates, and in fields.py which number of which field.
 
 `refusal_in_words` is for any bytes, number and place. Where the details do not fit them, it says the general sentence of the
 table of refusals.
@@ -8,16 +8,13 @@ table of refusals.
 from collections import Counter, deque
 from dataclasses import dataclass
 
-from netlist import BLOCK_LENGTH, BLOCK_TAG, GATE_LENGTHS, GATE_TAG, HEADER, MAX_BYTES, MAX_DELAY, MAX_DROP, MAX_EDITION
-from netlist import MAX_GATES, MAX_STEPS, MAX_WIDTH, MAX_WIRES, WIRE_TAG, Netlist, bodies, decode, encode, has_wire_delays
-from netlist import max_switching, number, switching_word, wire_length
+from fields import FIELD_FAULTS, spot_at
+from netlist import Netlist, decode, encode
+from text import LINE, SHORT_LABEL, chain, counted, label, with_list
 from timing import gates_in_order, longest_path
 
-# the most characters of a line, of a path inside one, and of a gate's label; the short one is for lines that say much besides
-LINE = 200
+# the most characters of a path inside a line
 PATH = 140
-LABEL = 80
-SHORT_LABEL = 40
 # so many gates inside a connection are told by number
 INSIDE = 5
 CURVE_PAIRS = 512
@@ -40,12 +37,10 @@ GENERAL = {
     17: "no number of spare ticks reaches the wanted saving",
 }
 
-KINDS = {BLOCK_TAG: "block", GATE_TAG: "gate", WIRE_TAG: "wire"}
-
 
 def refusal_in_words(file, number, place, netlist=None, increases=None, wanted=None, most=None) -> list[str]:
     """Lines that say what a refusal is about. The netlist gives the names of gates, if there are any; the increases are those
-    judged (13, 14), wanted is the saving asked for (17) and most what all ticks save, where known."""
+    judged (10, 13, 14), wanted is the saving asked for (17) and most what all ticks save, where known."""
     lines = []
     if number in FIELD_FAULTS:
         spot = spot_at(file, place, netlist)
@@ -56,258 +51,9 @@ def refusal_in_words(file, number, place, netlist=None, increases=None, wanted=N
     return lines or [f"refused {number}, place {place}: {GENERAL.get(number, 'no refusal has this number')}"]
 
 
-# Text
-
-
-def shown(text, most=60) -> str:
-    """Text for a terminal: what is not printable as escapes, and at most so many characters (3 or more)."""
-    pieces = [piece if piece.isprintable() else escape(piece) for piece in text[: most + 1]]
-    if sum(map(len, pieces)) <= most:
-        return "".join(pieces)
-    while pieces and sum(map(len, pieces)) > most - 3:
-        pieces.pop()
-    return "".join(pieces) + "..."
-
-
-def escape(character):
-    """The escape of one character; a byte that could not be decoded in a file's name is shown as that byte."""
-    code = ord(character)
-    if 0xDC80 <= code <= 0xDCFF:
-        code -= 0xDC00
-    return f"\\x{code:02x}" if code < 0x100 else f"\\u{code:04x}" if code < 0x10000 else f"\\U{code:08x}"
-
-
-def counted(count, word):
-    return f"{count} {word}" if count == 1 else f"{count} {word}s"
-
-
-def ordinal(count):
-    ending = "th" if count % 100 in (11, 12, 13) else {1: "st", 2: "nd", 3: "rd"}.get(count % 10, "th")
-    return f"{count}{ending}"
-
-
-def label(netlist, gate, most=LABEL):
-    """A gate by number and name."""
-    known = netlist is not None and 0 <= gate < len(netlist.gates)
-    return shown(netlist.label(gate), most) if known else f"gate {gate}"
-
-
-def with_list(front, words, last="and"):
-    """A line that ends in a list of one or more words."""
-    return front + listed(words, LINE - len(front), last)
-
-
-def listed(words, room, last="and"):
-    """Words in a list; those for which there is no room are counted."""
-    kept = len(words)
-    whole = f"{', '.join(words[:-1])} {last} {words[-1]}" if kept > 1 else words[0]
-    while len(whole) > room and kept > 1:
-        kept -= 1
-        whole = f"{', '.join(words[:kept])} and {len(words) - kept} more"
-    return whole
-
-
 def path_in_words(netlist, path, room=PATH):
     """The gates of a path."""
     return chain([label(netlist, gate) for gate in path], room)
-
-
-def chain(words, room):
-    """Words joined by arrows; those in front of the last for which there is no room are counted."""
-    whole = " -> ".join(words)
-    kept = len(words) - 1
-    while len(whole) > room and kept > 1:
-        kept -= 1
-        whole = " -> ".join(words[:kept] + [f"{len(words) - 1 - kept} more"] + words[-1:])
-    return whole
-
-
-# 1 to 7: the field at an offset
-
-
-@dataclass(frozen=True)
-class Spot:
-    """A place in a file where a field is due, by the fields in front of it, each an offset and a body."""
-
-    file: bytes
-    at: int
-    before: tuple
-    netlist: Netlist
-
-    @property
-    def edition(self):
-        return self.before[0][1][0]
-
-    @property
-    def gate_count(self):
-        return self.before[0][1][1]
-
-    @property
-    def due(self):
-        """The tag that is due."""
-        if not self.before:
-            return BLOCK_TAG
-        return GATE_TAG if len(self.before) <= self.gate_count else WIRE_TAG
-
-    @property
-    def wires(self):
-        """The wire fields in front."""
-        return self.before[1 + self.gate_count :]
-
-    @property
-    def name(self):
-        if self.due == BLOCK_TAG:
-            return "the block field"
-        if self.due == GATE_TAG:
-            return f"the field of {label(self.netlist, len(self.before) - 1, SHORT_LABEL)}"
-        return f"the {ordinal(len(self.wires) + 1)} wire"
-
-    @property
-    def lengths(self):
-        if self.due == WIRE_TAG:
-            return [wire_length(self.edition)]
-        return list(GATE_LENGTHS) if self.due == GATE_TAG else [BLOCK_LENGTH]
-
-    @property
-    def left(self):
-        """The bytes from here to the end of the file."""
-        return len(self.file) - self.at
-
-    @property
-    def length(self):
-        """The length that the header gives, None if no whole header is there."""
-        return number(self.file, self.at + 1) if self.left >= HEADER else None
-
-    @property
-    def body(self):
-        """The body, None if it is not whole or its length is not allowed."""
-        if self.length not in self.lengths or self.left < HEADER + self.length:
-            return None
-        return self.file[self.at + HEADER : self.at + HEADER + self.length]
-
-    def says(self, fault):
-        return f"{self.name} at byte {self.at}: {fault}"
-
-    def gates_so_far(self):
-        """A line about the number of gate fields, which decides the tag that is due."""
-        if self.due == BLOCK_TAG:
-            return []
-        gates = min(len(self.before) - 1, self.gate_count)
-        return [f"the block field gives gate count {self.gate_count}; gate fields in front of byte {self.at}: {gates}"]
-
-
-def spot_at(file, place, netlist):
-    """The spot at an offset; None if no field can be due there."""
-    before, end = [], 0
-    for at, body in bodies(file):
-        if at >= place:
-            break
-        before.append((at, body))
-        end = at + HEADER + len(body)
-    if end != place or (before and not is_head(before[0][1])):
-        return None
-    return Spot(file, place, tuple(before), netlist)
-
-
-def is_head(body):
-    """Whether a block field's body gives an edition and a gate count."""
-    return len(body) == BLOCK_LENGTH and 1 <= body[0] <= MAX_EDITION and 1 <= body[1] <= MAX_GATES
-
-
-def missing(spot):
-    if spot.left == 0 and spot.due == BLOCK_TAG:
-        return [f"the file is empty: {spot.name} is due at byte {spot.at}"]
-    if spot.left == 0 and spot.due == GATE_TAG:
-        return [f"{spot.name} is due at byte {spot.at}, but the file ends there", *spot.gates_so_far()]
-    if 0 < spot.left < HEADER:
-        return [spot.says(f"the header has {spot.left} of {HEADER} bytes, then the file ends")]
-    if spot.left and spot.left < HEADER + spot.length:
-        return [spot.says(f"the body has {spot.left - HEADER} of {counted(spot.length, 'byte')}, then the file ends")]
-    return []
-
-
-def wrong_tag(spot):
-    found = spot.file[spot.at] if spot.left else spot.due
-    if found == spot.due:
-        return []
-    kind = f" ({KINDS[found]})" if found in KINDS else ""
-    return [spot.says(f"tag {found}{kind} stands there, but tag {spot.due} ({KINDS[spot.due]}) is due"), *spot.gates_so_far()]
-
-
-def wrong_length(spot):
-    if spot.length is None or spot.length in spot.lengths:
-        return []
-    allowed = listed([str(length) for length in spot.lengths], LINE, "or")
-    why = {
-        BLOCK_TAG: f"a block field has {allowed}",
-        GATE_TAG: f"a gate field has {allowed}, which is 4 and 4 for each of 0 to {MAX_STEPS} steps",
-        WIRE_TAG: f"a wire field has {allowed} in edition {spot.edition}" if spot.before else "",
-    }
-    return [spot.says(f"the length is {spot.length}, but {why[spot.due]}")]
-
-
-def numbers_in(spot):
-    """The numbers of a field in the order of the file: name, value, what stands behind these in words, least and greatest."""
-    body = spot.body
-    if spot.due == BLOCK_TAG:
-        edition = body[0]
-        yield "edition", edition, "", 1, MAX_EDITION
-        yield "gate count", body[1], "", 1, MAX_GATES
-        yield switching_word(edition), number(body, 6), "", 0, max_switching(edition)
-    elif spot.due == GATE_TAG:
-        yield "drawn delay", number(body, 0), "", 0, MAX_DELAY
-        yield switching_word(spot.edition), number(body, 2), "", 0, max_switching(spot.edition)
-        for step, at in enumerate(range(4, len(body), 4), 1):
-            yield "width", number(body, at), f" of step {step}", 1, MAX_WIDTH
-            yield "drop", number(body, at + 2), f" of step {step}", 1, MAX_DROP
-    else:
-        yield "from-gate", body[0], "", 0, spot.gate_count - 1
-        yield "to-gate", body[1], "", 0, spot.gate_count - 1
-        if has_wire_delays(spot.edition):
-            yield "wire delay", number(body, 2), "", 0, MAX_DELAY
-
-
-def out_of_range(spot):
-    if spot.body is None:
-        return []
-    for name, value, behind, least, greatest in numbers_in(spot):
-        if not least <= value <= greatest:
-            return [spot.says(f"{name} {value}{behind} is out of its range, {least} to {greatest}")]
-    return []
-
-
-def not_falling(spot):
-    if spot.body is None or spot.due != GATE_TAG:
-        return []
-    drops = [number(spot.body, at) for at in range(6, len(spot.body), 4)]
-    for step in range(1, len(drops)):
-        if drops[step] >= drops[step - 1]:
-            return [spot.says(f"drop {drops[step]} of step {step + 1} is not below drop {drops[step - 1]} of step {step}")]
-    return []
-
-
-def wrong_wire(spot):
-    if spot.body is None or spot.due != WIRE_TAG:
-        return []
-    source, target = (label(spot.netlist, gate, SHORT_LABEL) for gate in spot.body[:2])
-    if spot.body[0] == spot.body[1]:
-        return [spot.says(f"it joins {source} to itself")]
-    for count, (at, body) in enumerate(spot.wires, 1):
-        if body[:2] == spot.body[:2]:
-            delays = ", whatever their delays" if has_wire_delays(spot.edition) else ""
-            fault = f"{source} -> {target} stood before{delays}, as the {ordinal(count)} wire at byte {at}"
-            return [spot.says(fault)]
-    return []
-
-
-def too_long(spot):
-    if not spot.left or spot.due != WIRE_TAG or len(spot.wires) != MAX_WIRES:
-        return []
-    # of a longer file no more is read
-    more = " or more" if len(spot.file) >= MAX_BYTES else ""
-    follows = "follows" if spot.left == 1 else "follow"
-    what = f"{counted(spot.left, 'byte')}{more} {follows} the {MAX_WIRES}th wire, from byte {spot.at} on"
-    return [f"{what}; a file has at most {MAX_WIRES} wires"]
 
 
 # 8 and above: the block
@@ -416,10 +162,17 @@ def wrong_ends(refusal):
     return lines
 
 
+def list_too_short(increases, gates):
+    """What a list that is judged lacks."""
+    return [f"the list has {counted(increases, 'increase')}, the block {counted(gates, 'gate')}"] if increases < gates else []
+
+
 def too_short(refusal):
     place, gates = refusal.place, len(refusal.netlist.gates) if refusal.netlist else 0
     if place < 1:
         return []
+    if refusal.increases is not None:
+        return list_too_short(len(refusal.increases), gates) if place == gates else []
     if place == 4 * gates:
         return [f"the lent memory is too short: {place} bytes are needed, 4 for each of {counted(gates, 'gate')}"]
     why = f", one for each of {counted(gates, 'gate')}" if place == gates else ""
@@ -544,7 +297,6 @@ def out_of_reach(refusal):
 
 
 # each finds the details of one refusal, and nothing if they do not fit
-FIELD_FAULTS = {1: missing, 2: wrong_tag, 3: wrong_length, 4: out_of_range, 5: not_falling, 6: wrong_wire, 7: too_long}
 BLOCK_FAULTS = {
     8: looped,
     9: wrong_ends,

@@ -69,7 +69,7 @@ def _keys_once(pairs):
 
 def _parsed(text):
     try:
-        return json.loads(text.removeprefix("\ufeff"), object_pairs_hook=_keys_once)
+        return json.loads(text, object_pairs_hook=_keys_once)
     except RecursionError:
         raise CannotImport(f"{NO_NETLIST}: it is nested too deeply") from None
     except json.JSONDecodeError as error:

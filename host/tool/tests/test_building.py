@@ -114,6 +114,18 @@ class FirstRun(unittest.TestCase):
             f"scripts/resize: 'rt check resize' failed; {self.root.resolve()}/target/tool/resize.log says why",
         )
 
+    def test_what_cannot_be_read_or_run_is_no_answer(self):
+        (self.root / "crates.txt").rename(self.root / "crates.text")
+        run = self.resize()
+        self.assertEqual((run.returncode, run.stdout, len(run.stderr.splitlines())), (2, "", 1))
+        self.assertIn("crates.txt", run.stderr)
+        (self.root / "crates.text").rename(self.root / "crates.txt")
+        self.resize()
+        (self.root / "target/bin/resize").chmod(0o644)
+        run = self.resize()
+        self.assertEqual((run.returncode, run.stdout, len(run.stderr.splitlines())), (2, "", 1))
+        self.assertIn("target/bin/resize", run.stderr)
+
     def test_a_missing_toolchain_or_python_is_said_in_one_line(self):
         self.toolchain.unlink()
         run = self.resize()

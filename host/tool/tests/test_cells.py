@@ -1,10 +1,12 @@
 """The table of cells: what it says, its faults in words, and damaged tables."""
 
 import random
+import tempfile
 import unittest
 from collections import Counter
 
 from cells import read_cells
+from inputs import read_text
 from naming import CannotImport
 from netlist import Step
 from tests.designs import EXAMPLES
@@ -19,11 +21,17 @@ class Tables(unittest.TestCase):
         return reason
 
     def test_what_a_table_says(self):
-        lines = ("\ufeffcell A delay 4095 steps (4095,1000) (1,1)\r", "# text", "", "cell B delay 0#", "net a[0] p 256", "p 0")
+        lines = ("cell A delay 4095 steps (4095,1000) (1,1)\r", "# text", "", "cell B delay 0#", "net a[0] p 256", "p 0")
         cells = read_cells("\n".join(lines))
         self.assertEqual((cells.edition, cells.others, sorted(cells.types)), (1, 0, ["A", "B"]))
         self.assertEqual((cells.types["A"].delay, cells.types["A"].steps), (4095, (Step(4095, 1000), Step(1, 1))))
         self.assertEqual((cells.nets["a[0]"].line, cells.nets["a[0]"].switching), (5, 256))
+
+    def test_a_mark_of_the_encoding_in_front(self):
+        with tempfile.NamedTemporaryFile() as file:
+            file.write("\ufeffcell A delay 1\np 128".encode())
+            file.flush()
+            self.assertEqual(list(read_cells(read_text(file.name, 100)).types), ["A"])
 
     def test_faults_of_lines(self):
         for line, reason in (

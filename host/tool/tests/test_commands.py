@@ -118,7 +118,7 @@ class Judge(CommandTest):
         late = self.honduvi("judge", "d.text", "0", "0", "2", "4")
         self.refused(late, 14, 0, "by 1 tick", "gate 0 (source) -> gate 1 (slow) -> gate 3 (join)")
         self.refused(self.honduvi("judge", "d.text", "0", "6", "0", "0"), 13, 1, "gate 1 (slow)", "6", "5")
-        self.refused(self.honduvi("judge", "d.text", "0"), 10, 4, "4")
+        self.refused(self.honduvi("judge", "d.text", "0"), 10, 4, "the list has 1 increase, the block 4 gates")
 
     def test_lists_from_files(self):
         for name, text in [("numbers", "0 0\n2, 3\n"), ("json", self.honduvi("best", "d.text", "--json")[1])]:
@@ -135,9 +135,26 @@ class Judge(CommandTest):
             self.assertEqual((status, output), (2, ""))
             self.assertIn("its gates are not 0 to", errors)
 
-    def test_increases_beyond_the_gates_are_told(self):
+    def test_a_list_longer_than_the_gates_is_no_answer(self):
         found = self.honduvi("judge", "d.text", "0", "0", "2", "3", "9", "9")
-        self.held(found, 0, f"saving {44 * U}\n", "d.text: the list has 2 more than there are gates, which are not read\n")
+        self.held(found, 2, "", "scripts/honduvi: the list has 6 increases, the block 4 gates\n")
+        without_head = "".join(self.honduvi("best", "d.block", "--csv")[1].splitlines(True)[1:]).replace(",,", ",")
+        self.assertEqual(self.honduvi("judge", "d.block", "--list", self.write("t", without_head))[:2], (2, ""))
+        self.refused(self.honduvi("judge", self.write("e", b""), "0"), 1, 0, "empty")
+
+    def test_tables_as_spreadsheets_write_them(self):
+        for table in (
+            '"gate","increase"\n"3","3"\n"0","0"\n"1","0"\n"2","2"\n',
+            "\ufeffgate;increase\r\n0;0\r\n1;0\r\n2;2\r\n3;3\r\n",
+        ):
+            self.held(self.honduvi("judge", "d.text", "--list", self.write("t", table)), 0, f"saving {44 * U}\n")
+
+    def test_options_between_file_and_increases(self):
+        self.held(self.honduvi("judge", "d.text", "--json", "0", "0", "0", "3"), 0, '{\n "saving": 1179648\n}\n')
+        for arguments in (["judge", "d.text", "--json", "0", "x"], ["judge", "d.text", "--frob", "0"], ["best", "d.text", "0"]):
+            status, output, errors = self.honduvi(*arguments)
+            self.assertEqual((status, output), (2, ""))
+            self.assertIn("usage: scripts/honduvi", errors)
 
     def test_lists_that_are_none(self):
         for text in (
@@ -153,6 +170,7 @@ class Judge(CommandTest):
             status, output, errors = self.honduvi("judge", "d.text", "--list", self.write("list", text))
             self.assertEqual((status, output), (2, ""), text[:20])
             self.assertIn("list: no list of increases", errors)
+        self.assertIn("'list' is missing", self.honduvi("judge", "d.text", "--list", self.write("list", "{}"))[2])
         status, _, errors = self.honduvi("judge", "d.text", "0", "--list", "list")
         self.assertEqual(status, 2)
 

@@ -5,6 +5,7 @@ import unittest
 
 from description import MAX_NAME, Fault, is_description, read, write
 from netlist import MAX_EDITION, Gate, Netlist, Step, Wire, decode, encode, has_wire_delays, max_switching
+from tests.blocks import with_names
 
 BLOCK = "block arrival 0 deadline 9 p 128"
 TWO = f"{BLOCK}\ngate 0 delay 1 p 0\ngate 1 delay 1 p 0\n"
@@ -45,7 +46,7 @@ class Reading(unittest.TestCase):
         for _ in range(300):
             netlist = any_netlist(draw)
             self.assertEqual(said(write(netlist)), netlist)
-            self.assertEqual(decode(encode(netlist)), netlist.with_names([""] * len(netlist.gates)))
+            self.assertEqual(decode(encode(netlist)), with_names(netlist, [""] * len(netlist.gates)))
             editions.add(netlist.edition)
         self.assertEqual(editions, {1, 2, 3})
 
@@ -124,6 +125,7 @@ class Faults(unittest.TestCase):
                 (f"{BLOCK}\ngate 0 delay 4096 p 0", "2: delay 4096 is not 0 to 4095"),
                 (f"{BLOCK}\ngate 0 delay 1 p 257", "2: p 257 is not 0 to 256"),
                 (f"{TWO}wires 0-1\ngate 2 delay 1 p 0", "5: gates must come before wires"),
+                (f"{TWO}wires # none yet\ngate 2 delay 1 p 0", "5: gates must come before wires"),
                 (BLOCK + "".join(f"\ngate {g} delay 1 p 0" for g in range(65)), "66: more than 64 gates"),
             ]
         )

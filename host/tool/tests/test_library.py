@@ -1,8 +1,12 @@
 """Tests of host/python/honduvi.py, and of what the tool finds itself against the proved calls. Needs
 target/host/libhonduvi.so."""
 
+import pickle
 import random
+import shutil
+import subprocess
 import sys
+import tempfile
 import unittest
 
 from building import ROOT
@@ -10,7 +14,7 @@ from netlist import Gate, Netlist, Step, Wire, decode, encode
 from timing import longest_path, times
 
 sys.path.append(str(ROOT / "host" / "python"))
-from honduvi import Library, Refused  # noqa: E402
+from honduvi import Library, Refused, default_path  # noqa: E402
 
 U = 32_768
 D = (ROOT / "examples" / "diamond.block").read_bytes()
@@ -66,6 +70,32 @@ class Calls(unittest.TestCase):
             self.assertRaises(ValueError, self.library.judge, D, [0, 0, 0, increase])
         for wanted in (-1, 2**64):
             self.assertRaises(ValueError, self.library.fewest_ticks, D, wanted)
+
+
+class Handling(unittest.TestCase):
+    def test_any_bytes_and_no_other_type(self):
+        library = Library()
+        for file in (bytearray(D), memoryview(D)):
+            self.assertEqual(library.slacks(file), [3, 3, 5, 3])
+        for other in (5, "text", None):
+            self.assertRaises(TypeError, library.slacks, other)
+
+    def test_a_refusal_between_processes(self):
+        refusal = pickle.loads(pickle.dumps(Refused(12, 0)))
+        self.assertEqual((refusal.number, refusal.place, str(refusal)), (12, 0, "refused 12 0"))
+
+    def test_module_and_library_in_one_folder(self):
+        with tempfile.TemporaryDirectory() as folder:
+            shutil.copy(ROOT / "host/python/honduvi.py", folder)
+            shutil.copy(default_path(), folder)
+            for words in ("honduvi.Library()", "honduvi.Library('libhonduvi.so')"):
+                program = f"import honduvi; print({words}.fewest_ticks({D!r}, 1))"
+                run = subprocess.run([sys.executable, "-c", program], cwd=folder, capture_output=True, text=True)
+                self.assertEqual((run.stdout, run.stderr), ("0\n", ""))
+
+    def test_all_that_a_curve_comes_to(self):
+        found = Library().curve(D)
+        self.assertEqual((found.ticks, found.most), (10, 92 * U))
 
 
 class Missing(unittest.TestCase):

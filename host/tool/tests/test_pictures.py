@@ -9,6 +9,7 @@ from pathlib import Path
 from block_picture import block_picture
 from curve_picture import curve_picture
 from netlist import Gate, Netlist, Step, Wire, decode
+from tests.blocks import with_names
 from timing import times
 
 SVG = "{http://www.w3.org/2000/svg}"
@@ -92,7 +93,7 @@ def late_diamond(arrival=5, deadline=9):
 
 
 def with_long_names(block):
-    return block.with_names([f"name_of_thirty_characters_{i:04}" for i in range(len(block.gates))])
+    return with_names(block, [f"name_of_thirty_characters_{i:04}" for i in range(len(block.gates))])
 
 
 def random_increases(block, seed):
@@ -318,7 +319,7 @@ class Names(unittest.TestCase):
     STRANGE = '<a&"b>'
 
     def test_escaped(self):
-        block = example("diamond").with_names([self.STRANGE, "carry", "'", "]]>"])
+        block = with_names(example("diamond"), [self.STRANGE, "carry", "'", "]]>"])
         root = ElementTree.fromstring(block_picture(self.STRANGE, block, [0, 0, 2, 3]))
         self.assertEqual(root[0].text, self.STRANGE)
         self.assertEqual([e.text for e in of_class(root, "text", "heading")], [self.STRANGE])
@@ -327,7 +328,7 @@ class Names(unittest.TestCase):
         self.assertEqual(root[0].text, self.STRANGE)
 
     def test_characters_that_xml_has_not(self):
-        block = example("diamond").with_names(["a\0b", "\ud800", "\uffff", "\x1b[0m"])
+        block = with_names(example("diamond"), ["a\0b", "\ud800", "\uffff", "\x1b[0m"])
         root = ElementTree.fromstring(block_picture("\0", block, None))
         self.assertEqual(of_class(root, "text", "gate")[0].text, "0 a\ufffdb")
 

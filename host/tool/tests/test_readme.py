@@ -30,7 +30,7 @@ class Readme(unittest.TestCase):
     def test_commands(self):
         with tempfile.TemporaryDirectory() as name:
             folder = Path(name)
-            for part in ("scripts", "examples", "host"):
+            for part in ("scripts", "examples", "host", "target"):
                 (folder / part).symlink_to(ROOT / part)
             commands = sessions()
             self.assertGreater(len(commands), 10)

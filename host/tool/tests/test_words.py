@@ -1,265 +1,22 @@
 """Tests of words.py: hand-made files with the whole text, and damaged files with the refusals that host/python finds."""
 
-import importlib
 import random
 import re
-import sys
 import unittest
 from collections import Counter
-from pathlib import Path
 
 from netlist import Gate, Netlist, Step, Wire, decode, encode
-from words import GENERAL, LINE, path_in_words, refusal_in_words, shown
-
-HOST_PYTHON = Path(__file__).resolve().parents[2] / "python"
-
-
-def from_host_python(name):
-    """A module of host/python; its own imports come from there too, and leave no module behind under their names."""
-    theirs = {file.stem for file in HOST_PYTHON.glob("*.py")}
-    ours = {module: sys.modules.pop(module) for module in theirs & set(sys.modules)}
-    sys.path.insert(0, str(HOST_PYTHON))
-    try:
-        return importlib.import_module(name)
-    finally:
-        sys.path.remove(str(HOST_PYTHON))
-        for module in theirs & set(sys.modules):
-            del sys.modules[module]
-        sys.modules.update(ours)
+from tests.blocks import BRIDGE, RefusalTest, a_field, diamond, gate, head, network, refused_by_block, second_opinion, two
+from tests.blocks import wire, with_names
+from text import LINE
+from words import path_in_words, refusal_in_words
 
 
-file_reader = from_host_python("file_reader")
-second_opinion = from_host_python("second_opinion")
+def named(file, *names):
+    return with_names(decode(file), names)
 
 
-def two(*numbers):
-    return b"".join(bytes([n >> 8, n & 255]) for n in numbers)
-
-
-def a_field(tag, body):
-    return bytes([tag]) + two(len(body)) + body
-
-
-def head(gates, edition=1, deadline=100, switching=128):
-    return a_field(1, bytes([edition, gates]) + two(0, deadline, switching))
-
-
-def gate(*numbers):
-    return a_field(2, two(*numbers))
-
-
-def wire(source, target, delay=None):
-    return a_field(3, bytes([source, target]) + (b"" if delay is None else two(delay)))
-
-
-def network(gates, *wires, deadline=100):
-    """A file of edition 1 whose gates last 1 tick and have no steps."""
-    return head(gates, deadline=deadline) + gate(1, 128) * gates + b"".join(wire(a, b) for a, b in wires)
-
-
-def diamond(deadline=10):
-    """Block D of document 01. Its fields begin at 0, 11, 18, 33, 44, 55, 60, 65 and 70; it has 75 bytes."""
-    gates = gate(2, 128) + gate(3, 128, 2, 5, 3, 2) + gate(1, 128, 4, 4) + gate(2, 128, 5, 6)
-    return head(4, deadline=deadline) + gates + wire(0, 1) + wire(0, 2) + wire(1, 3) + wire(2, 3)
-
-
-BRIDGE = [(0, 1), (0, 2), (1, 2), (1, 3), (2, 3)]
-# 272 wires between 17 gates
-MANY_WIRES = [(a, b) for a in range(17) for b in range(17) if a != b]
-
-
-def refused_by_reader(file):
-    """Number and place of 1 to 7."""
-    try:
-        file_reader.read(file)
-    except file_reader.Refused as refused:
-        return refused.args
-    return None
-
-
-def refused_by_block(file):
-    """Number and place of 1 to 9, 11 and 12, or None."""
-    try:
-        block = second_opinion.Block(file)
-    except second_opinion.Refused as refused:
-        return refused.args
-    place = second_opinion.lowest_left(block.n, tuple(block.wires))
-    if place is not None:
-        return 11, place
-    return (12, 0) if block.spare() < 0 else None
-
-
-class Words(unittest.TestCase):
-    def holds(self, file, number, place, *lines, **known):
-        self.assertEqual(refusal_in_words(file, number, place, **known), list(lines))
-
-    def refused(self, file, number, place, *lines):
-        """As holds, and the other readers refuse the file in the same way."""
-        self.assertEqual(refused_by_block(file), (number, place))
-        if number <= 7:
-            self.assertEqual(refused_by_reader(file), (number, place))
-        self.holds(file, number, place, *lines)
-
-    def general(self, file, number, place, **known):
-        self.holds(file, number, place, f"refused {number}, place {place}: {GENERAL[number]}", **known)
-
-
-class Missing(Words):
-    def test_empty(self):
-        self.refused(b"", 1, 0, "the file is empty: the block field is due at byte 0")
-
-    def test_cut_in_every_field_of_the_diamond(self):
-        fields = [(0, 8, "the block field")]
-        fields += [(at, size, f"the field of gate {g}") for g, (at, size) in enumerate([(11, 4), (18, 12), (33, 8), (44, 8)])]
-        fields += [(55, 2, "the 1st wire"), (60, 2, "the 2nd wire"), (65, 2, "the 3rd wire"), (70, 2, "the 4th wire")]
-        for at, size, name in fields:
-            for there in (1, 2):
-                line = f"{name} at byte {at}: the header has {there} of 3 bytes, then the file ends"
-                self.refused(diamond()[: at + there], 1, at, line)
-            for there in range(size):
-                line = f"{name} at byte {at}: the body has {there} of {size} bytes, then the file ends"
-                self.refused(diamond()[: at + 3 + there], 1, at, line)
-
-    def test_cut_behind_fields_of_the_diamond(self):
-        for gates, at in enumerate([11, 18, 33, 44]):
-            due = f"the field of gate {gates} is due at byte {at}, but the file ends there"
-            count = f"the block field gives gate count 4; gate fields in front of byte {at}: {gates}"
-            self.refused(diamond()[:at], 1, at, due, count)
-        for at, gate_at_fault in [(55, 0), (60, 1), (65, 1), (70, 2)]:
-            line = f"gate {gate_at_fault} has no wire out; every gate but the last, gate 3, needs one"
-            self.refused(diamond()[:at], 9, gate_at_fault, line)
-            self.general(diamond()[:at], 1, at)
-
-    def test_nothing_missing(self):
-        self.general(head(1), 1, 0)
-        self.general(diamond(), 1, 70)
-
-    def test_length_one(self):
-        self.holds(b"\1\0\1", 1, 0, "the block field at byte 0: the body has 0 of 1 byte, then the file ends")
-
-
-class TagsAndLengths(Words):
-    def test_tags(self):
-        file = diamond()
-        self.refused(b"\2" + file[1:], 2, 0, "the block field at byte 0: tag 2 (gate) stands there, but tag 1 (block) is due")
-        self.refused(
-            file[:33] + file[55:],
-            2,
-            33,
-            "the field of gate 2 at byte 33: tag 3 (wire) stands there, but tag 2 (gate) is due",
-            "the block field gives gate count 4; gate fields in front of byte 33: 2",
-        )
-        self.refused(
-            file[:65] + b"\xff\0\0",
-            2,
-            65,
-            "the 3rd wire at byte 65: tag 255 stands there, but tag 3 (wire) is due",
-            "the block field gives gate count 4; gate fields in front of byte 65: 4",
-        )
-
-    def test_block_length(self):
-        self.refused(a_field(1, bytes(9)), 3, 0, "the block field at byte 0: the length is 9, but a block field has 8")
-        self.refused(b"\1\0\0", 3, 0, "the block field at byte 0: the length is 0, but a block field has 8")
-
-    def test_nine_steps(self):
-        line = (
-            "the field of gate 1 at byte 18: the length is 40, but a gate field has 4, 8, 12, 16, 20, 24, 28, 32 or 36, "
-            "which is 4 and 4 for each of 0 to 8 steps"
-        )
-        self.refused(head(2) + gate(1, 128) + gate(1, 128, *[1] * 18), 3, 18, line)
-        self.general(head(2) + gate(1, 128) + gate(1, 128, *[1] * 16), 3, 18)
-
-    def test_wire_lengths(self):
-        for edition, size, due in [(1, 4, 2), (2, 2, 4), (3, 0, 4)]:
-            file = head(2, edition) + gate(1, 128) * 2 + a_field(3, bytes(size))
-            line = f"the 1st wire at byte 25: the length is {size}, but a wire field has {due} in edition {edition}"
-            self.refused(file, 3, 25, line)
-
-
-class Ranges(Words):
-    def test_block(self):
-        front = "the block field at byte 0: "
-        for edition in (0, 4, 255):
-            self.refused(head(1, edition) + gate(1, 0), 4, 0, f"{front}edition {edition} is out of its range, 1 to 3")
-        for gates in (0, 65, 255):
-            self.refused(head(gates) + gate(1, 0) * gates, 4, 0, f"{front}gate count {gates} is out of its range, 1 to 64")
-        for edition in (1, 2):
-            file = head(1, edition, switching=257) + gate(1, 0)
-            self.refused(file, 4, 0, f"{front}p 257 is out of its range, 0 to 256")
-
-    def test_first_number_at_fault(self):
-        self.refused(head(65, 4, switching=257), 4, 0, "the block field at byte 0: edition 4 is out of its range, 1 to 3")
-        self.refused(head(65, 1, switching=257), 4, 0, "the block field at byte 0: gate count 65 is out of its range, 1 to 64")
-
-    def test_numbers_at_their_limits(self):
-        self.general(head(64, switching=256), 4, 0)
-        self.general(head(1, 3, switching=65535), 4, 0)
-        self.general(head(1, 3) + gate(4095, 65535, 4095, 1000, 1, 1), 4, 11)
-        self.general(head(2, 2) + gate(1, 1) * 2 + wire(0, 1, 4095), 4, 25)
-
-    def test_gate(self):
-        for numbers, fault in [
-            ((4096, 257), "drawn delay 4096 is out of its range, 0 to 4095"),
-            ((4095, 257, 0, 0), "p 257 is out of its range, 0 to 256"),
-            ((1, 256, 0, 0), "width 0 of step 1 is out of its range, 1 to 4095"),
-            ((1, 0, 4096, 1), "width 4096 of step 1 is out of its range, 1 to 4095"),
-            ((1, 0, 4095, 0, 0, 0), "drop 0 of step 1 is out of its range, 1 to 1000"),
-            ((1, 0, 1, 1000, 1, 1001), "drop 1001 of step 2 is out of its range, 1 to 1000"),
-            ((1, 0, *[1, 5] * 7, 65535, 5), "width 65535 of step 8 is out of its range, 1 to 4095"),
-        ]:
-            line = f"the field of gate 1 at byte 18: {fault}"
-            self.refused(head(2) + gate(1, 0) + gate(*numbers) + wire(0, 1), 4, 18, line)
-
-    def test_wire(self):
-        for ends, fault in [
-            ((2, 2, 4096), "from-gate 2 is out of its range, 0 to 1"),
-            ((1, 255, 4096), "to-gate 255 is out of its range, 0 to 1"),
-            ((1, 1, 4096), "wire delay 4096 is out of its range, 0 to 4095"),
-        ]:
-            file = head(2, 2) + gate(1, 0) * 2 + wire(0, 1, 4095) + wire(*ends)
-            self.refused(file, 4, 32, f"the 2nd wire at byte 32: {fault}")
-
-
-class DropsAndWires(Words):
-    def test_drops(self):
-        for steps, fault in [
-            ((2, 5, 3, 5), "drop 5 of step 2 is not below drop 5 of step 1"),
-            ((2, 5, 3, 4, 1, 7, 1, 9), "drop 7 of step 3 is not below drop 4 of step 2"),
-        ]:
-            self.refused(head(1) + gate(1, 0, *steps), 5, 11, f"the field of gate 0 at byte 11: {fault}")
-
-    def test_to_itself(self):
-        self.refused(network(2, (0, 1), (1, 1)), 6, 30, "the 2nd wire at byte 30: it joins gate 1 to itself")
-
-    def test_twice(self):
-        line = "the 4th wire at byte 47: gate 0 -> gate 1 stood before, as the 2nd wire at byte 37"
-        self.refused(network(3, (0, 2), (0, 1), (1, 2), (0, 1)), 6, 47, line)
-        self.general(network(2, (0, 1), (1, 0)), 6, 30)
-
-    def test_twice_with_other_delays(self):
-        file = head(2, 2) + gate(1, 0) * 2 + wire(0, 1, 0) + wire(0, 1, 7)
-        line = "the 2nd wire at byte 32: gate 0 -> gate 1 stood before, whatever their delays, as the 1st wire at byte 25"
-        self.refused(file, 6, 32, line)
-
-    def test_257th_wire(self):
-        file = network(17, *MANY_WIRES[:256])
-        at = 11 + 17 * 7 + 256 * 5
-        one = f"1 byte follows the 256th wire, from byte {at} on; a file has at most 256 wires"
-        self.refused(file + b"\3", 7, at, one)
-        self.refused(file + wire(0, 1), 7, at, one.replace("1 byte follows", "5 bytes follow"))
-        read = file.ljust(8_192, b"\3")
-        self.refused(read, 7, at, one.replace("1 byte follows", f"{8_192 - at} bytes or more follow"))
-        self.general(file, 7, at)
-        self.general(file[:-5] + wire(0, 1), 7, at - 5)
-
-    def test_ordinals(self):
-        for count, said in [(2, "2nd"), (3, "3rd"), (11, "11th"), (12, "12th"), (13, "13th"), (21, "21st"), (22, "22nd")]:
-            file = network(17, *MANY_WIRES[: count - 1], (0, 0))
-            at = 130 + 5 * (count - 1)
-            self.refused(file, 6, at, f"the {said} wire at byte {at}: it joins gate 0 to itself")
-
-
-class LoopsAndEnds(Words):
+class LoopsAndEnds(RefusalTest):
     def test_loop_of_two(self):
         self.refused(network(7, (0, 2), (2, 5), (5, 2), (5, 6)), 8, 2, "a loop: gate 2 -> gate 5 -> gate 2")
 
@@ -326,7 +83,7 @@ class LoopsAndEnds(Words):
         self.assertTrue(said.endswith(", gate 15 and 48 more"), said)
 
 
-class Lent(Words):
+class Lent(RefusalTest):
     def test_elements(self):
         front = "the lent memory is too short: "
         self.holds(diamond(), 10, 4, f"{front}4 elements are needed, one for each of 4 gates")
@@ -336,8 +93,15 @@ class Lent(Words):
         self.holds(b"", 10, 7, f"{front}7 elements are needed")
         self.general(diamond(), 10, 0)
 
+    def test_a_list_that_is_judged(self):
+        self.holds(diamond(), 10, 4, "the list has 3 increases, the block 4 gates", increases=[0, 0, 0])
+        self.holds(diamond(), 10, 4, "the list has 1 increase, the block 4 gates", increases=[9])
+        self.holds(head(1) + gate(1, 1), 10, 1, "the list has 0 increases, the block 1 gate", increases=[])
+        for file, place, count in [(diamond(), 4, 4), (diamond(), 5, 3), (diamond(), 16, 3), (b"", 7, 3)]:
+            self.general(file, 10, place, increases=[0] * count)
 
-class NotSeriesParallel(Words):
+
+class NotSeriesParallel(RefusalTest):
     TAKEN = "with gates in series taken away and doubled wires merged, it is the lowest gate left between the ends"
 
     def test_bridge(self):
@@ -383,7 +147,7 @@ class NotSeriesParallel(Words):
         self.general(network(5, *BRIDGE, (0, 4), (1, 4), (2, 4)), 11, 1)
 
 
-class Late(Words):
+class Late(RefusalTest):
     def test_late(self):
         line = "late by 1 tick: the longest path lasts 7 ticks from arrival 0, the deadline is 6: gate 0 -> gate 1 -> gate 3"
         self.refused(diamond(deadline=6), 12, 0, line)
@@ -414,7 +178,7 @@ class Late(Words):
         self.general(b"", 12, 0)
 
 
-class Judged(Words):
+class Judged(RefusalTest):
     def test_beyond_widths(self):
         line = "the increase of gate 1 is 6, but the sum of its widths is 5"
         self.holds(diamond(), 13, 1, line, increases=[0, 6, 0, 0])
@@ -431,7 +195,7 @@ class Judged(Words):
             self.general(diamond(), 14, 0, **known)
 
 
-class Wanted(Words):
+class Wanted(RefusalTest):
     def test_wanted(self):
         line = "a saving of 3014657 is wanted, but all ticks together save 3014656"
         self.holds(diamond(), 17, 0, line, wanted=3014657, most=3014656)
@@ -441,37 +205,25 @@ class Wanted(Words):
         self.general(diamond(), 17, 0, wanted=5, most=5)
 
 
-class Names(Words):
-    def named(self, file, *names):
-        return decode(file).with_names(names)
-
+class Names(RefusalTest):
     def test_names(self):
         file = diamond(deadline=6)
         front = "late by 1 tick: the longest path lasts 7 ticks from arrival 0, the deadline is 6: "
         line = front + "gate 0 (in) -> gate 1 -> gate 3 (sum)"
-        self.holds(file, 12, 0, line, netlist=self.named(file, "in", "", "or", "sum"))
+        self.holds(file, 12, 0, line, netlist=named(file, "in", "", "or", "sum"))
         line = "the increase of gate 1 (or) is 6, but the sum of its widths is 5"
-        self.holds(file, 13, 1, line, netlist=self.named(file, "", "or", "", ""), increases=[0, 6])
+        self.holds(file, 13, 1, line, netlist=named(file, "", "or", "", ""), increases=[0, 6])
 
     def test_names_in_every_line_of_a_bridge(self):
         file = network(4, *BRIDGE)
-        lines = refusal_in_words(file, 11, 1, netlist=self.named(file, "a", "b", "c", "d"))
+        lines = refusal_in_words(file, 11, 1, netlist=named(file, "a", "b", "c", "d"))
         plain = refusal_in_words(file, 11, 1)
         names = "abcd"
         self.assertEqual(lines, [re.sub(r"gate (\d)", lambda m: f"{m[0]} ({names[int(m[1])]})", line) for line in plain])
 
-    def test_names_in_field_faults(self):
-        netlist = self.named(diamond(), "in", "or", "and", "sum")
-        line = "the field of gate 2 (and) at byte 33: the body has 5 of 8 bytes, then the file ends"
-        self.holds(diamond()[:41], 1, 33, line, netlist=netlist)
-        short = self.named(head(1) + gate(1, 1), "in")
-        self.holds(diamond()[:41], 1, 33, line.replace(" (and)", ""), netlist=short)
-        line = "the 5th wire at byte 75: it joins gate 1 (or) to itself"
-        self.holds(diamond() + wire(1, 1), 6, 75, line, netlist=netlist)
-
     def test_control_characters(self):
         file = network(2, (0, 1), (1, 0))
-        netlist = self.named(file, "a\x1b[31m", "b\n\u202e")
+        netlist = named(file, "a\x1b[31m", "b\n\u202e")
         line = r"a loop: gate 0 (a\x1b[31m) -> gate 1 (b\x0a\u202e) -> gate 0 (a\x1b[31m)"
         self.holds(file, 8, 0, line, netlist=netlist)
 
@@ -489,40 +241,18 @@ class Names(Words):
             (into_first, 9, 0),
             (no_way_out, 9, 62),
         ]:
-            lines = refusal_in_words(file, number, place, netlist=self.named(file, *names))
+            lines = refusal_in_words(file, number, place, netlist=named(file, *names))
             self.assertNotEqual(lines[0][:7], "refused")
             for line in lines:
                 self.assertLessEqual(len(line), LINE, line)
 
     def test_path_in_words(self):
-        netlist = self.named(diamond(), "in", "", "or", "sum")
+        netlist = named(diamond(), "in", "", "or", "sum")
         self.assertEqual(path_in_words(netlist, [0, 2, 3]), "gate 0 (in) -> gate 2 (or) -> gate 3 (sum)")
         self.assertEqual(path_in_words(netlist, [0, 1, 2, 3], room=30), "gate 0 (in) -> 2 more -> gate 3 (sum)")
 
 
-class General(Words):
-    def test_places_at_no_field(self):
-        for number in range(1, 8):
-            for place in (-1, 1, 12, 74, 76, 10**20):
-                self.general(diamond(), number, place)
-
-    def test_behind_a_block_field_that_says_nothing(self):
-        for body in (b"", b"\1", b"\1\1" + bytes(5), bytes([4, 1]) + bytes(6), bytes([1, 65]) + bytes(6), bytes(9)):
-            file = a_field(1, body)
-            for number in range(1, 8):
-                for behind in (b"", b"\1", gate(9999, 1), wire(9, 9)):
-                    self.general(file + behind, number, len(file))
-
-    def test_bodies_that_are_not_whole(self):
-        for number in (3, 4, 5, 6):
-            for size, place in [(10, 0), (32, 18), (74, 70), (72, 70)]:
-                self.general(diamond()[:size], number, place)
-
-    def test_no_fault_there(self):
-        for number in range(1, 8):
-            for place in (0, 11, 18, 55, 75):
-                self.general(diamond(), number, place)
-
+class General(RefusalTest):
     def test_gates_that_are_not_there(self):
         for number in (8, 9, 11, 13):
             for place in (-1, 4, 300):
@@ -543,27 +273,6 @@ class General(Words):
         for file in (b"", b"\1", head(0), head(4), diamond()[:-1], long_wire, head(1) + a_field(2, b"\0")):
             for number in (8, 9, 11, 12, 13, 14):
                 self.general(file, number, 1 if number == 9 else 0, increases=[9] * 9)
-
-
-class Shown(unittest.TestCase):
-    def test_text_as_it_is(self):
-        for text in ("", "a b", "größe → x", "n" * 60):
-            self.assertEqual(shown(text), text)
-
-    def test_escapes(self):
-        self.assertEqual(shown("a\tb\r\n\0\x7f\x85\x1b[0m"), r"a\x09b\x0d\x0a\x00\x7f\x85\x1b[0m")
-        self.assertEqual(shown("\u2028\u200b\ud800\U000e0001"), r"\u2028\u200b\ud800\U000e0001")
-        self.assertEqual(shown(b"\xff\x80x".decode("utf-8", "surrogateescape")), r"\xff\x80x")
-
-    def test_shortened(self):
-        self.assertEqual(shown("n" * 61), "n" * 57 + "...")
-        self.assertEqual(shown("abcdef", 5), "ab...")
-        self.assertEqual(shown("ab\x1bdef", 6), "ab...")
-        self.assertEqual(shown("\x1b" * 1000, 10), r"\x1b...")
-        self.assertEqual(shown("abcd", 3), "...")
-
-    def test_lines(self):
-        self.assertEqual(shown("a\nb"), r"a\x0ab")
 
 
 def a_network(rng):
