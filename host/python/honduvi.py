@@ -90,7 +90,9 @@ class Library:
             raise OSError(f"{path} is not there; in Honduvi's repository 'rt staticlib layout' and 'host/run shared' make it")
         self._library = ctypes.CDLL(os.path.abspath(path))
         for name, (answer, arguments) in _CALLS.items():
-            function = getattr(self._library, name)
+            function = getattr(self._library, name, None)
+            if function is None:
+                raise OSError(f"{path} has no {name}")
             function.restype, function.argtypes = answer, arguments
 
     def _call(self, name, file, *arguments):

@@ -273,12 +273,12 @@ def _legend_entries(rows, path, given):
     kinds = {row.kind for row in rows}
     entries = [
         (ORDINARY, "delay", ORDINARY in kinds),
-        (LONGEST, "delay, on the longest path", True),
+        (LONGEST, f"delay, on the longest path{' with increases' if given else ''}", True),
         (AS_LONG, "delay, on another path as long", AS_LONG in kinds),
         (INCREASE, "increase", given),
         (SLACK, _slack_words(given), any(row.slack > 0 for row in rows)),
         (LATE, "late (negative slack)", any(row.slack < 0 for row in rows)),
-        (WIRE, "wire of the longest path", len(path) > 1),
+        (WIRE, "wire of that path", len(path) > 1),
     ]
     return [(kind, words) for kind, words, occurs in entries if occurs]
 

@@ -17,8 +17,8 @@ from explaining import explained
 from importing import import_json
 from inputs import ACCEPTED, REFUSED, NoAnswer
 from naming import CannotImport
-from netlist import MAX_TIME, decode
-from proposals import increase, read_increases
+from netlist import BLOCK_TAG, MAX_TIME, decode
+from proposals import Proposal, increase, read_proposal
 from tables import Answer, Table, refused
 from text import counted, shown
 from words import refusal_in_words
@@ -55,6 +55,7 @@ class Block:
     """A block that a person handed over, and the proved calls on it."""
 
     def __init__(self, name):
+        self.name = name
         self.given = inputs.read(name)
         self.library = library()
         self.file = self.given.file
@@ -105,11 +106,9 @@ def curve(block, options):
 
 
 def judge(block, options):
-    """The call reads as many increases as there are gates; a longer list is a mistaken one, such as a table without its head."""
+    """The call reads as many increases as there are gates, so that a list for another block could get a verdict."""
     block.library.slacks(block.file)
-    found, gates = len(options.increases), len(block.netlist.gates)
-    if found > gates:
-        raise NoAnswer(f"the list has {found} increases, the block {counted(gates, 'gate')}")
+    options.proposal.check(block.netlist)
     return Answer({"saving": block.library.judge(block.file, options.increases)})
 
 
@@ -132,7 +131,8 @@ def answer(options):
     """A command that answers with values and a table."""
     form = form_of(options)
     if options.command == "judge":
-        options.increases = proposed(options)
+        options.proposal = proposed(options)
+        options.increases = options.proposal.increases
     block = Block(options.file)
     known = {name: getattr(options, name) for name in ("increases", "wanted") if hasattr(options, name)}
     try:
@@ -147,10 +147,10 @@ def answer(options):
 def proposed(options):
     """The list of increases to be judged, of the command line or of a file."""
     if options.list is None:
-        return options.increase
+        return Proposal(options.increase)
     if options.increase:
         raise NoAnswer("increases are given on the command line and with --list")
-    return read_increases(options.list)
+    return read_proposal(options.list)
 
 
 def explain(options):
@@ -175,7 +175,8 @@ def draw_block(block, title):
         increases = block.library.best_increases(block.file).increases
     except Refused as refusal:
         increases = None
-        told(title, [f"drawn without increases: {line}" for line in block.words(refusal)])
+        title = f"{title}: without increases, since refused {refusal.number} {refusal.place}"
+        told(block.name, [f"drawn without increases, since {refusal}", *block.words(refusal)])
     return block_picture(title, block.netlist, increases)
 
 
@@ -193,6 +194,8 @@ def draw(options):
 
 def to_block(options):
     data = inputs.read_bytes(options.file, description.MAX_DESCRIPTION)
+    if data[:1] == bytes([BLOCK_TAG]):
+        raise NoAnswer(f"{shown(options.file)}: this is a block file and no description")
     inputs.write(options.output, inputs.of_description(options.file, data).file)
     return ACCEPTED
 
@@ -259,10 +262,11 @@ def add_answers(command):
     answering("slacks", slacks, "the slack of each gate before increases", is_table=True)
     answering("curve", curve, "the saving for every number of spare ticks, as pairs of width and gain", is_table=True)
     judging = answering("judge", judge, "the verdict on a list of increases, one for each gate")
-    judging.add_argument("increase", metavar="INCREASE", nargs="*", type=increase)
+    judging.add_argument("increase", metavar="INCREASE", nargs="*", type=increase, help="ticks, one for each gate in order")
     judging.add_argument("--list", metavar="FILE", help="the list from a file: numbers, or what best --csv or --json wrote")
     reaching = answering("ticks", ticks, "the fewest spare ticks with which some list saves at least WANTED")
-    reaching.add_argument("wanted", metavar="WANTED", type=number_below(1 << 64))
+    unit = "a saving, in drop x transitions in 65,536 clock cycles"
+    reaching.add_argument("wanted", metavar="WANTED", type=number_below(1 << 64), help=unit)
     explaining = command("explain", "the block and its best increases in words, or why it is refused", run=explain)
     explaining.add_argument("file", metavar="FILE")
 
@@ -278,15 +282,23 @@ def add_pictures_and_forms(command):
         added.add_argument("-o", "--output", metavar="FILE", default="-", help="where to (standard output)")
         return added
 
-    pictured = {"choices": ("curve", "block"), "help": "the saving over spare ticks, or the gates on the time axis"}
-    writing("draw", "a picture (SVG) of the curve or of the block", draw, ("what", pictured))
+    pictured = {
+        "choices": ("curve", "block"),
+        "metavar": "curve|block",
+        "help": "the saving over spare ticks, or the gates on the time axis",
+    }
+    writing(
+        "draw", "a picture (SVG) of the curve, or of the block with its best increases if it has any", draw, ("what", pictured)
+    )
     writing("to-block", "a description to a block file", to_block)
     writing("to-text", "a block file to its description", to_text)
     importing = writing("import", "a netlist that yosys wrote (write_json) to a description", import_netlist)
     importing.add_argument("--cells", metavar="TABLE", required=True, help="delays and steps of cell types, probabilities")
     importing.add_argument("--module", metavar="NAME", help="the module, where the netlist has several")
-    importing.add_argument("--arrival", metavar="TICKS", type=number_below(MAX_TIME + 1), default=0)
-    importing.add_argument("--deadline", metavar="TICKS", type=number_below(MAX_TIME + 1), help="else as early as it can be")
+    importing.add_argument("--arrival", metavar="TICKS", type=number_below(MAX_TIME + 1), default=0, help="0 if not given")
+    importing.add_argument(
+        "--deadline", metavar="TICKS", type=number_below(MAX_TIME + 1), help="the end of the longest path if not given"
+    )
 
 
 def parsed(arguments):
@@ -305,9 +317,9 @@ def parsed(arguments):
 
 def run(arguments):
     options = parsed(arguments)
-    inputs.check_names([getattr(options, name, None) for name in ("file", "list", "cells")])
+    inputs.check_names([getattr(options, name, None) for name in ("file", "list", "cells")], getattr(options, "output", "-"))
     return options.run(options)
 
 
-if __name__ == "__main__":
-    sys.exit(inputs.ended("scripts/honduvi", lambda: run(sys.argv[1:])))
+def main(arguments):
+    return inputs.ended("scripts/honduvi", lambda: run(arguments))

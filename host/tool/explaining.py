@@ -1,5 +1,7 @@
 """A block and its best increases in words."""
 
+from math import inf
+
 from text import counted
 from timing import longest_path
 from words import path_in_words
@@ -28,10 +30,13 @@ def explained(block):
     netlist = block.netlist
     spare, none = block.spare(curve.start), [0] * len(netlist.gates)
     gates, wires = counted(len(netlist.gates), "gate"), counted(len(netlist.wires), "wire")
-    path = path_in_words(netlist, longest_path(netlist, none))
+    path = longest_path(netlist, none)
+    wires_of_path = {wire for wire in netlist.wires if (wire.source, wire.target) in zip(path, path[1:])}
+    on_wires = sum(wire.delay for wire in wires_of_path)
+    lasts = counted(curve.start, "tick") + (f", {on_wires} of them on wires" if on_wires else "")
     return [
         f"{gates}, {wires}; arrival {netlist.arrival}, deadline {netlist.deadline}",
-        f"the longest path without increases lasts {counted(curve.start, 'tick')}: {path}",
+        f"the longest path without increases lasts {lasts}: {path_in_words(netlist, path, inf)}",
         f"{counted(spare, 'tick')} to spare up to the deadline",
         f"the best increases save {per_cycle(best.saving)}; {PROVED}",
         *(sized(netlist, best.increases) if any(best.increases) else ["  no gate is slowed"]),

@@ -116,7 +116,11 @@ def wrong_tag(spot):
     if found == spot.due:
         return []
     kind = f" ({KINDS[found]})" if found in KINDS else ""
-    return [spot.says(f"tag {found}{kind} stands there, but tag {spot.due} ({KINDS[spot.due]}) is due"), *spot.gates_so_far()]
+    fault = f"tag {found}{kind} stands there, but tag {spot.due} ({KINDS[spot.due]}) is due"
+    # what a person wrote as text, but in another encoding than UTF-8
+    written = spot.due == BLOCK_TAG and (chr(found).isalpha() or chr(found) in "# ")
+    hint = ["a description must be text in UTF-8 without a byte 0, which this file is not"] if written else []
+    return [spot.says(fault), *hint, *spot.gates_so_far()]
 
 
 def wrong_length(spot):

@@ -42,10 +42,13 @@ def _standard(stream, name):
     return stream.buffer
 
 
-def check_names(names):
-    """Standard input can be read once only."""
+def check_names(names, output="-"):
+    """Standard input can be read once only, and no file that is read is written."""
     if names.count("-") > 1:
         raise NoAnswer("standard input (-) can stand for one file alone")
+    for name in filter(None, names):
+        if os.path.exists(name) and os.path.exists(output) and os.path.samefile(name, output):
+            raise NoAnswer(f"{shown(output)}: input and output are one file")
 
 
 def _opened(name):

@@ -2,7 +2,6 @@
 refused."""
 
 import subprocess
-import sys
 
 import building
 import inputs
@@ -31,6 +30,10 @@ its sources (needs the Rattle kit's command rt). scripts/honduvi has tables, pic
 """
 
 
+# no path is longer
+MAX_PATH = 4_096
+
+
 def printout(program, file):
     """What the proved program prints for a file."""
     run = subprocess.run([program], input=file, capture_output=True)
@@ -49,7 +52,7 @@ def answer(program, name, several):
     """Prints the answer for one file; its status."""
     given = inputs.read(name)
     printed = printout(program, given.file)
-    inputs.write("-", (f"{name}:\n".encode(errors="surrogateescape") if several else b"") + printed)
+    inputs.write("-", (f"{shown(name, MAX_PATH)}:\n".encode() if several else b"") + printed)
     refusal = refusal_of(printed)
     if refusal is None:
         return ACCEPTED
@@ -70,5 +73,5 @@ def run(arguments):
     return max([inputs.ended("scripts/resize", lambda: answer(program, name, len(names) > 1)) for name in names])
 
 
-if __name__ == "__main__":
-    sys.exit(inputs.ended("scripts/resize", lambda: run(sys.argv[1:])))
+def main(arguments):
+    return inputs.ended("scripts/resize", lambda: run(arguments))

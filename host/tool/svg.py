@@ -45,12 +45,13 @@ def text_width(words, size=TEXT_SIZE):
 
 
 def shorten(words, room, size=TEXT_SIZE):
-    """The words, or their beginning with an ellipsis where they need more room than there is."""
-    if text_width(words, size) <= room:
-        return words
-    while words and text_width(words + "\u2026", size) > room:
-        words = words[:-1]
-    return words.rstrip() + "\u2026"
+    """The words, or their two ends with an ellipsis between them where they need more room than there is: names that one tool
+    made begin alike and differ at their ends."""
+    short, kept = words, len(words)
+    while kept and text_width(short, size) > room:
+        kept -= 1
+        short = words[: kept - kept // 2] + "\u2026" + words[len(words) - kept // 2 :]
+    return short
 
 
 # elements

@@ -34,9 +34,15 @@ def ordinal(count):
 
 
 def label(netlist, gate, most=LABEL):
-    """A gate by number and name."""
+    """A gate by number and name. A long name is cut in its middle: names that one tool made begin alike and differ at their
+    ends."""
     known = netlist is not None and 0 <= gate < len(netlist.gates)
-    return shown(netlist.label(gate), most) if known else f"gate {gate}"
+    whole = netlist.label(gate) if known else f"gate {gate}"
+    if len(whole) <= most:
+        return shown(whole, most)
+    name = netlist.gates[gate].name
+    kept = len(name) - (len(whole) - most) - 3
+    return shown(f"gate {gate} ({name[: kept // 3]}...{name[kept // 3 - kept :]})", most)
 
 
 def with_list(front, words, last="and"):
@@ -50,7 +56,7 @@ def listed(words, room, last="and"):
     whole = f"{', '.join(words[:-1])} {last} {words[-1]}" if kept > 1 else words[0]
     while len(whole) > room and kept > 1:
         kept -= 1
-        whole = f"{', '.join(words[:kept])} and {len(words) - kept} more"
+        whole = f"{', '.join(words[:kept])} {last} {len(words) - kept} more"
     return whole
 
 

@@ -1,6 +1,7 @@
 """Tests of scripts/honduvi: every command's answers by hand, its forms, statuses and words. Needs target/host/libhonduvi.so."""
 
 import csv
+import ctypes.util
 import io
 import json
 import os
@@ -8,6 +9,7 @@ import re
 import subprocess
 import unittest
 import xml.etree.ElementTree as ElementTree
+from pathlib import Path
 
 from building import ROOT
 from tests.scripts import BRIDGE, DIAMOND, LATE, ScriptTest
@@ -149,6 +151,20 @@ class Judge(CommandTest):
         ):
             self.held(self.honduvi("judge", "d.text", "--list", self.write("t", table)), 0, f"saving {44 * U}\n")
 
+    def test_a_table_for_another_block_is_no_answer(self):
+        table = self.honduvi("best", "d.text", "--csv")[1]
+        for other, fault in (
+            (DIAMOND.replace("name slow", "name other"), "gate 1 has the name slow, in the block other"),
+            (DIAMOND.replace("delay 1", "delay 7"), "gate 2 has the delay 1, in the block 7"),
+        ):
+            status, output, errors = self.honduvi("judge", self.write("o", other), "--list", "-", given=table.encode())
+            self.assertEqual((status, output), (2, ""))
+            self.assertIn(fault, errors)
+        self.held(self.honduvi("judge", "d.block", "--list", "-", given=table.encode()), 0, f"saving {44 * U}\n")
+
+    def test_a_list_in_brackets(self):
+        self.held(self.honduvi("judge", "d.text", "--list", self.write("t", "[0, 0, 2, 3]")), 0, f"saving {44 * U}\n")
+
     def test_options_between_file_and_increases(self):
         self.held(self.honduvi("judge", "d.text", "--json", "0", "0", "0", "3"), 0, '{\n "saving": 1179648\n}\n')
         for arguments in (["judge", "d.text", "--json", "0", "x"], ["judge", "d.text", "--frob", "0"], ["best", "d.text", "0"]):
@@ -212,6 +228,15 @@ class Explain(CommandTest):
             self.assertIn(words, output)
         self.assertNotIn("gate 1 (slow): delay", output)
 
+    def test_wires_and_long_names_of_the_longest_path(self):
+        names = [f"{'n' * 60}{gate}" for gate in range(4)]
+        text = (ROOT / "examples" / "delays.text").read_text()
+        for gate, name in enumerate(names):
+            text = text.replace(f"gate {gate} ", f"gate {gate} name {name} ")
+        output = self.honduvi("explain", self.write("x", text))[1]
+        path = " -> ".join(f"gate {gate} ({names[gate]})" for gate in (0, 1, 3))
+        self.assertIn(f"lasts 8 ticks, 1 of them on wires: {path}\n", output)
+
     def test_a_refusal(self):
         status, output, errors = self.honduvi("explain", self.write("l", LATE))
         self.assertEqual((status, errors), (1, ""))
@@ -237,7 +262,9 @@ class Draw(CommandTest):
         ElementTree.fromstring((self.folder / "d.svg").read_text())
 
     def test_blocks_without_best_increases(self):
-        self.assertIn("drawn without increases: late by 1 tick", self.drawn("block", self.write("l", LATE))[1])
+        words, errors = self.drawn("block", self.write("l", LATE))
+        self.assertIn("l: without increases, since refused 12 0", words)
+        self.assertTrue(errors.startswith("l: drawn without increases, since refused 12 0\nl: late by 1 tick"), errors)
         self.assertIn("series-parallel", self.drawn("block", self.write("b", BRIDGE))[1])
         status, output, errors = self.honduvi("draw", "curve", "b")
         self.assertEqual((status, output), (1, ""))
@@ -287,7 +314,8 @@ class Conversion(CommandTest):
             ("x" * 20_000_000, f"x.text: more than 16,777,216 bytes"),
             ("x" * 10_000_000, f"x.text:1: 'block', 'gate' or 'wires' was expected, not '{'x' * 57}...'"),
             ("\x1b[31m", "x.text:1: 'block', 'gate' or 'wires' was expected, not '\\x1b[31m'"),
-            (b"\x01\x00\xff", "x.text: this is no text: byte 2 is not UTF-8"),
+            (b"\x02\x00\xff", "x.text: this is no text: byte 2 is not UTF-8"),
+            (b"\x01\x00\x08", "x.text: this is a block file and no description"),
         ]:
             self.write("x.text", text)
             self.held(self.honduvi("to-block", "x.text"), 2, "", f"scripts/honduvi: {right}\n")
@@ -359,6 +387,12 @@ class NoAnswer(CommandTest):
             self.assertTrue(errors, arguments)
             self.assertTrue(errors.replace("\n", "").isprintable(), errors)
 
+    def test_output_to_the_input(self):
+        for command in ("to-block", "to-text"):
+            found = self.honduvi(command, "d.text", "-o", "./d.text")
+            self.held(found, 2, "", "scripts/honduvi: ./d.text: input and output are one file\n")
+        self.assertEqual((self.folder / "d.text").read_text(), DIAMOND)
+
     def test_standard_input_for_two_files(self):
         for arguments in (["judge", "-", "--list", "-"], ["import", "-", "--cells", "-"]):
             found = self.honduvi(*arguments, given=DIAMOND.encode())
@@ -391,6 +425,11 @@ class NoAnswer(CommandTest):
         status, output, errors = self.honduvi("best", "d.text", env={**os.environ, "HONDUVI_LIBRARY": "no/such.so"})
         self.assertEqual((status, output), (2, ""))
         self.assertIn("scripts/honduvi: the library cannot be used: no/such.so", errors)
+        other = ctypes.util.find_library("c")
+        path = next(path for path in Path("/").glob(f"lib*/**/{other}"))
+        status, output, errors = self.honduvi("best", "d.text", env={**os.environ, "HONDUVI_LIBRARY": str(path)})
+        self.assertEqual((status, output, errors.count("\n")), (2, "", 1))
+        self.assertIn("has no honduvi_best_increases", errors)
 
     def test_files_that_cannot_be_read(self):
         for command in ("best", "explain", "to-block", "to-text"):

@@ -336,7 +336,7 @@ class Names(unittest.TestCase):
         block = with_long_names(example("diamond"))
         root = ElementTree.fromstring(block_picture("long", block, None))
         for gate, label in zip(block.gates, of_class(root, "text", "gate")):
-            self.assertTrue(label.text.endswith("\u2026") and len(label.text) < 25, label.text)
+            self.assertTrue(label.text.endswith(gate.name[-5:]) and "\u2026" in label.text and len(label.text) < 25, label.text)
         hints = [e.find(SVG + "title").text for e in root.iter(SVG + "g")]
         self.assertTrue(all(gate.name in hint for gate, hint in zip(block.gates, hints)) and len(hints) == 4)
 

@@ -65,6 +65,11 @@ class Refused(ScriptTest):
         self.refused(BRIDGE, 11, 1, "series-parallel", "gate 1 (slow)")
         self.refused(LATE, 12, 0, "late by 1 tick", "gate 0 (source) -> gate 1 (slow) -> gate 3 (join)")
 
+    def test_text_in_another_encoding(self):
+        for encoding in ("latin-1", "utf-16"):
+            self.refused(f"{DIAMOND}# größer\n".encode(encoding), 2, 0, "a description must be text in UTF-8 without a byte 0")
+        self.assertNotIn("description", self.run_script("resize", self.write("y", b"\x02" + D[1:]))[2])
+
     def test_gates_without_names(self):
         self.block("late.block", LATE)
         status, _, errors = self.run_script("resize", "late.block")

@@ -2,7 +2,8 @@
 
 import unittest
 
-from text import chain, counted, is_number, listed, ordinal, shown, value_up_to
+from netlist import Gate, Netlist
+from text import chain, counted, is_number, label, listed, ordinal, shown, value_up_to
 
 
 class Shown(unittest.TestCase):
@@ -59,6 +60,16 @@ class Numbers(unittest.TestCase):
                 for zeros in ("", "0", "0" * 5000):
                     self.assertEqual(value_up_to(f"{zeros}{value}", most), min(value, most + 1))
             self.assertEqual(value_up_to("9" * 5000, most), most + 1)
+
+
+class Labels(unittest.TestCase):
+    def test_long_names_are_cut_in_their_middle(self):
+        names = [f"$abc$103$auto$blifparse.cc:386:parse_blif${number}" for number in (108, 109)]
+        netlist = Netlist(1, 0, 9, 0, tuple(Gate(0, 0, (), name) for name in names))
+        self.assertEqual(label(netlist, 0), f"gate 0 ({names[0]})")
+        self.assertEqual(label(netlist, 0, 30), "gate 0 ($abc$1...rse_blif$108)")
+        self.assertTrue(label(netlist, 1, 30).endswith("$109)"))
+        self.assertEqual(listed(["one", "two", "three"], 14, "or"), "one or 2 more")
 
 
 if __name__ == "__main__":
