@@ -6,10 +6,11 @@ import os
 import re
 import shutil
 import subprocess
-import sys
 import time
 from contextlib import contextmanager
 from pathlib import Path
+
+from inputs import say
 
 ROOT = Path(__file__).resolve().parents[2]
 TARGET = ROOT / "target"
@@ -75,7 +76,7 @@ def told(crate, took, count, total, began):
     return f"[{count:2}/{total}] {crate} proved, {took}; {so_far // 60}:{so_far % 60:02} so far"
 
 
-def follow(command, log, total, say):
+def follow(command, log, total):
     """Runs a command, its output to the log; says a line for each crate that it proves. Its status."""
     began, count = time.monotonic(), 0
     with open(log, "w") as stream:
@@ -90,10 +91,6 @@ def follow(command, log, total, say):
         return run.wait()
 
 
-def say_to_stderr(line):
-    print(line, file=sys.stderr, flush=True)
-
-
 @contextmanager
 def alone():
     """Where several commands run at once, one builds and the others wait for it."""
@@ -103,7 +100,7 @@ def alone():
         yield
 
 
-def prove(crate, command, product, say=say_to_stderr):
+def prove(crate, command, product):
     """Proves a crate and what it needs with a command that makes the product, unless that is up to date."""
     crates = needs(ROOT, crate)
     stamp = TARGET / "tool" / f"{crate}.stamp"
@@ -119,7 +116,7 @@ def prove(crate, command, product, say=say_to_stderr):
         log = TARGET / "tool" / f"{crate}.log"
         say(f"proving and building {crate}, once: {len(crates)} crates, some minutes; {log.relative_to(ROOT)} has the details")
         began = time.time_ns()
-        if follow(command, log, len(crates), say) != 0 or not product.exists():
+        if follow(command, log, len(crates)) != 0 or not product.exists():
             raise NotBuilt(f"'{' '.join(command)}' failed; {log} says why")
         stamp.touch()
         os.utime(stamp, ns=(began, began))
