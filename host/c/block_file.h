@@ -3,21 +3,17 @@
 #ifndef BLOCK_FILE_H
 #define BLOCK_FILE_H
 
-#include <stdint.h>
+#include "honduvi.h"
+
 #include <stdio.h>
 #include <stdlib.h>
 
-#define MOST_GATES 64
-#define MOST_PAIRS 512
-
-/* A block file has at most 4,299 bytes; a longer one is refused however it goes on. */
-#define MOST_BYTES 8192
-
-/* How many bytes were read to `file`, which has MOST_BYTES; where none can be, the program ends with status 2. */
+/* How many bytes were read to `file`, which has HONDUVI_MAX_BYTES; of a longer one, which is refused however it goes on, these.
+   Where none can be read, the program ends with status 2. */
 static size_t read_block_file(const char *name, uint8_t *file)
 {
     FILE *stream = fopen(name, "rb");
-    size_t length = stream == NULL ? 0 : fread(file, 1, MOST_BYTES, stream);
+    size_t length = stream == NULL ? 0 : fread(file, 1, HONDUVI_MAX_BYTES, stream);
     if (stream == NULL || ferror(stream)) {
         perror(name);
         exit(2);

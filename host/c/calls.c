@@ -12,7 +12,7 @@
 #include <inttypes.h>
 #include <string.h>
 
-static uint8_t file[MOST_BYTES];
+static uint8_t file[HONDUVI_MAX_BYTES];
 static size_t length;
 
 static int usage(void)
@@ -37,8 +37,8 @@ static int number_of(const char *word, uint64_t most, uint64_t *number)
 
 static int slacks(void)
 {
-    int32_t slacks[MOST_GATES];
-    honduvi_answer answer = honduvi_slacks(file, length, slacks, MOST_GATES);
+    int32_t slacks[HONDUVI_MAX_GATES];
+    honduvi_answer answer = honduvi_slacks(file, length, slacks, HONDUVI_MAX_GATES);
     if (answer.number != 0)
         return refused(answer.number, answer.place);
     for (uint32_t gate = 0; gate < answer.place; gate++)
@@ -48,21 +48,22 @@ static int slacks(void)
 
 static int curve(void)
 {
-    uint32_t widths[MOST_PAIRS], gains[MOST_PAIRS];
-    honduvi_curve_answer answer = honduvi_curve(file, length, widths, MOST_PAIRS, gains, MOST_PAIRS);
+    static uint32_t widths[HONDUVI_MAX_PAIRS];
+    static uint64_t gains[HONDUVI_MAX_PAIRS];
+    honduvi_curve_answer answer = honduvi_curve(file, length, widths, HONDUVI_MAX_PAIRS, gains, HONDUVI_MAX_PAIRS);
     if (answer.number != 0)
         return refused(answer.number, answer.place);
     printf("start %" PRIu32 " saving %" PRIu64 "\n", answer.start, answer.at_start);
     for (uint32_t pair = 0; pair < answer.pairs; pair++)
-        printf("%" PRIu32 " %" PRIu32 "\n", widths[pair], gains[pair]);
+        printf("%" PRIu32 " %" PRIu64 "\n", widths[pair], gains[pair]);
     return 0;
 }
 
 static int judge(int count, char **words)
 {
-    uint32_t increases[MOST_GATES];
+    uint32_t increases[HONDUVI_MAX_GATES];
     uint64_t increase;
-    if (count > MOST_GATES)
+    if (count > HONDUVI_MAX_GATES)
         return usage();
     for (int gate = 0; gate < count; gate++) {
         if (!number_of(words[gate], UINT32_MAX, &increase))

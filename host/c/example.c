@@ -14,8 +14,8 @@ static uint32_t increase_of(const uint8_t *increases, size_t gate)
 
 int main(int count, char **arguments)
 {
-    static uint8_t file[MOST_BYTES];
-    uint8_t increases[4 * MOST_GATES];
+    static uint8_t file[HONDUVI_MAX_BYTES];
+    uint8_t increases[4 * HONDUVI_MAX_GATES];
 
     if (count != 2) {
         fprintf(stderr, "usage: example FILE\n");

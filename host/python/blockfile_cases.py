@@ -5,17 +5,20 @@ blockfile_cases.py --check DIR: says whether they still are what it would write.
 stdin: groups, one for each edition: the length of a block file and the number of cases (2 bytes each, high byte first), the
 file's bytes, then the cases of 8 bytes: how many bytes of the file are read (2), and two changes, each a place (2) and the byte
 to put there (1); a place beyond the file changes nothing.
-stdout: for each case what document 01, and K2 and K3 in document 02, say of the changed file, by file_reader.py, which shares
-nothing with the crate. Of a file that is read: gates, wires, arrival, deadline, activity of the input, and the delay of the
-first wire if there is one."""
-from itertools import chain, cycle
+stdout: for each case what document 01, and K2, K3 and K10 in document 02, say of the changed file, by file_reader.py, which
+shares nothing with the crate. Of a file that is read: gates, wires, arrival, deadline, activity of the input, and the delay of
+the first wire if there is one."""
+from itertools import chain, cycle, islice
 
 from editions import WIRE_LENGTH
 from file_reader import Refused, read
+from limit_files import GATES_BEFORE, LIMIT_FILES
+from limits import MAX_DELAY, MAX_DROP, MAX_GATES, MAX_STEPS, MAX_WIDTH, MAX_WIRES
 from small_files import PLAIN, SMALL_FILES, head
 from stored import store
 
-MOST_BYTES = 8192
+# of the program's input
+MOST_BYTES = 32_768
 NOWHERE = 65535
 # the delays of the wires from edition 2 on, one after another
 DELAYS = [4095, 0, 256, 255, 1, 3840]
@@ -31,26 +34,33 @@ def field(tag, body):
     return [tag] + two(len(body)) + body
 
 
+def some_wires():
+    """More wires than a file can have: from gate 0 to all others, from the last gate to all others, then to these two."""
+    last = MAX_GATES - 1
+    yield from ([0, b] for b in range(1, MAX_GATES))
+    yield from ([last, b] for b in range(last))
+    yield from ([a, b] for a in range(1, last) for b in (0, last))
+
+
 class Whole:
-    """A file of 17 gates, the first of which has 8 steps, and 256 wires: its bytes, its size, and the offsets of some fields.
-    One more byte, from edition 2 on one more wire, stands behind it."""
+    """A file of as many gates and wires as there can be, the first gate with 8 steps: its bytes, its size, and the offsets of
+    some fields. One more wire stands behind it."""
 
     def __init__(self, edition):
         of_input, of_first, of_others = map(two, SWITCHING[edition])
-        block = field(1, [edition, 17] + two(0) + two(65535) + of_input)
-        steps = [n for k in range(8) for n in two(4095) + two(1000 - k)]
+        block = field(1, [edition, MAX_GATES] + two(0) + two(65535) + of_input)
+        steps = [n for k in range(MAX_STEPS) for n in two(MAX_WIDTH) + two(MAX_DROP - k)]
         gates_at, wires_at = [], []
-        for body in [two(4095) + of_first + steps] + [two(g) + of_others for g in range(16)]:
+        for body in [two(MAX_DELAY) + of_first + steps] + [two(g) + of_others for g in range(MAX_GATES - 1)]:
             gates_at.append(len(block))
             block += field(2, body)
-        wires = [[a, b] for a in range(17) for b in range(17) if a != b]
-        for wire, delay in zip(wires[:256], cycle(DELAYS)):
+        for wire, delay in zip(islice(some_wires(), MAX_WIRES + 1), cycle(DELAYS)):
             wires_at.append(len(block))
             block += field(3, wire + two(delay)[: WIRE_LENGTH[edition] - 2])
-        self.size = len(block)
-        self.file = block + ([3] if edition == 1 else field(3, wires[256] + two(1)))
+        self.file = block
         self.first, self.second, self.third = gates_at[:3]
-        self.wire, self.wire_2, self.last = wires_at[0], wires_at[1], wires_at[-1]
+        self.last_gate = gates_at[-1]
+        self.wire, self.wire_2, *_, self.last, self.size = wires_at
         # a wire from the same gate as the first, with the same delay
         self.wire_like_first = wires_at[len(DELAYS)]
 
@@ -66,10 +76,9 @@ def cut(*fields):
 
 
 def sizes(whole):
-    """Cut at every byte of the block field, of a gate and of two wires, and behind each."""
+    """Cut at every byte of the block field, of a gate, of two wires and of a 601st, and behind each."""
     yield whole.size,
-    yield whole.size + 1,
-    yield from cut((0, whole.first), (whole.second, whole.third), (whole.wire, whole.wire_2), (whole.last, whole.size))
+    yield from cut((0, whole.first), (whole.second, whole.third), (whole.wire, whole.wire_2), (whole.last, len(whole.file)))
 
 
 def tags_and_lengths(whole):
@@ -81,13 +90,22 @@ def tags_and_lengths(whole):
             yield whole.size, (at + 1, size >> 8), (at + 2, size & 255)
 
 
+def gate_counts(whole):
+    """Fewer gates than stand there, 65 among them, which were too many before K10, and more; more, and no gate there; a wire in
+    place of the last gate; one byte of it missing."""
+    for gates in (0, 1, GATES_BEFORE, GATES_BEFORE + 1, MAX_GATES - 1, MAX_GATES + 1, 255):
+        yield whole.size, (4, gates)
+    yield whole.first, (4, MAX_GATES + 1)
+    yield whole.size, (whole.last_gate, 3)
+    yield whole.wire - 1,
+
+
 def ranges_and_drops(whole):
-    # edition, gate count, p 257 of the input, arrival; 65 gates without any field of one; p 128 of the input
+    # edition, p 257 of the input, arrival; p 128 of the input
     for edition in (0, 2, 3, 4, 255):
         yield whole.size, (3, edition)
-    for change in ((4, 0), (4, 1), (4, 16), (4, 18), (4, 64), (4, 65), (4, 255), (10, 1), (5, 255)):
+    for change in ((10, 1), (5, 255)):
         yield whole.size, change
-    yield whole.first, (4, 65)
     yield whole.size, (9, 0), (10, 128)
     # of a gate: delay 4096, p 257, width 0 and 4096, drop 0 and 1001, drops equal, rising, and falling by more than 1
     body = whole.first + 3
@@ -103,15 +121,33 @@ def ranges_and_drops(whole):
 
 
 def wires(whole):
-    # to itself; twice, just behind and at the end; beyond the gates; beyond them and to itself; to itself before a 257th
-    wire, last = whole.wire, whole.last
+    """The first wire: to itself, twice, and beyond the gates."""
+    wire, second, highest = whole.wire, whole.wire_2, MAX_GATES - 1
     yield whole.size, (wire + 4, 0)
-    yield whole.size, (whole.wire_2 + 4, 1)
-    yield whole.size, (last + 3, 0), (last + 4, 1)
-    yield whole.size, (wire + 4, 17)
-    yield whole.size, (wire + 3, 16), (wire + 4, 17)
-    yield whole.size, (wire + 3, 255), (wire + 4, 255)
-    yield whole.size + 1, (last + 3, 0), (last + 4, 0)
+    yield whole.size, (wire + 3, highest), (wire + 4, highest)
+    # stood before: just behind, and far behind, between the first and the highest gate
+    yield whole.size, (second + 4, 1)
+    yield whole.size, (wire + 4, highest)
+    yield whole.size, (wire + 3, highest), (wire + 4, 0)
+    for gate in (highest + 1, 255):
+        yield whole.size, (wire + 3, gate)
+        yield whole.size, (wire + 4, gate)
+        yield whole.size, (wire + 3, gate), (wire + 4, gate)
+
+
+def last_wires(whole):
+    """The 600th wire: between other gates, twice, to itself, beyond the gates; to itself before a 601st, whole and cut. Behind
+    it any byte, and a 601st that stood before."""
+    last, highest = whole.last, MAX_GATES - 1
+    yield whole.size, (last + 3, 9), (last + 4, 8)
+    for source, target in ((0, 1), (0, highest), (highest, 0), (1, 0), (0, 0), (highest, highest)):
+        yield whole.size, (last + 3, source), (last + 4, target)
+    for source, target in ((highest + 1, highest), (highest, highest + 1), (highest + 1, highest + 1), (255, 0)):
+        yield whole.size, (last + 3, source), (last + 4, target)
+    for size in (whole.size + 1, whole.size + 3, len(whole.file)):
+        yield size, (last + 3, 0), (last + 4, 0)
+    yield whole.size + 1, (whole.size, 0)
+    yield len(whole.file), (whole.size + 3, 0), (whole.size + 4, 1)
 
 
 def like_small_files(whole):
@@ -148,7 +184,7 @@ def editions(whole):
 
 
 def wire_fields(whole):
-    """Cut at every byte of two wires and of a 257th; tags and lengths."""
+    """Cut at every byte of two wires and of a 601st; tags and lengths."""
     yield whole.size,
     yield from cut((whole.wire, whole.wire_2 + 1), (whole.last, len(whole.file)))
     for tag in (0, 1, 2, 4, 255):
@@ -179,7 +215,7 @@ def wires_with_delays(whole):
     # the delay out of range: to itself; stood before; beyond the gates
     yield whole.size, (wire + 4, 0), (wire + 5, 16)
     yield whole.size, (second + 4, 1), (second + 5, 16)
-    yield whole.size, (wire + 4, 17), (wire + 5, 255)
+    yield whole.size, (wire + 4, MAX_GATES), (wire + 5, 255)
     # stood before with the same delay, and with others
     yield whole.size, (like_first + 4, 1)
     yield whole.size, (like_first + 4, 1), (like_first + 6, 254)
@@ -215,12 +251,13 @@ def editions_of_activities(whole):
 
 
 def faults_beside_activities(whole):
-    """Each field cut behind its number's high byte; gate counts; a gate's delay, width, drop and falling drops; wires."""
+    """Each field cut behind its number's high byte, a 601st wire cut and whole; a gate's delay, width, drop and falling drops;
+    lengths and delays of a wire."""
     body, wire = whole.first + 3, whole.wire
-    for size in (10, 11, body + 3, body + 4, wire, wire + 3, wire + 6, whole.wire_2, whole.size, len(whole.file)):
+    for size in (10, 11, body + 3, body + 4, wire, wire + 3, wire + 6, whole.wire_2):
         yield size,
-    for gates in (0, 1, 16, 18, 65):
-        yield whole.size, (4, gates)
+    for size in (whole.size, whole.size + 1, whole.size + 3, len(whole.file)):
+        yield size,
     yield whole.size, (body, 16), (body + 1, 0)
     yield whole.size, (body + 4, 0), (body + 5, 0)
     yield whole.size, (body + 6, 3), (body + 7, 233)
@@ -229,14 +266,12 @@ def faults_beside_activities(whole):
         yield whole.size, (wire + 1, size >> 8), (wire + 2, size & 255)
     for delay in (0, 256, 4095, 4096, 65535):
         yield whole.size, (wire + 5, delay >> 8), (wire + 6, delay & 255)
-    yield whole.size, (wire + 4, 0)
-    yield whole.size, (whole.wire_2 + 4, 1)
 
 
 CASES = {
-    1: (sizes, tags_and_lengths, ranges_and_drops, wires, like_small_files),
-    2: (wire_fields, editions, wire_delays, wires, wires_with_delays, probabilities),
-    3: (activities, editions_of_activities, faults_beside_activities),
+    1: (sizes, tags_and_lengths, gate_counts, ranges_and_drops, wires, last_wires, like_small_files),
+    2: (wire_fields, editions, gate_counts, wire_delays, wires, last_wires, wires_with_delays, probabilities),
+    3: (activities, editions_of_activities, gate_counts, faults_beside_activities, wires, last_wires),
 }
 
 
@@ -250,7 +285,7 @@ def outcome(file):
 
 def check_by_hand():
     """The reader agrees with what was found by hand, and says the activity of the input."""
-    for file, right in SMALL_FILES:
+    for file, right in SMALL_FILES + LIMIT_FILES:
         word, numbers = outcome(list(file))
         assert (numbers[1] if word == "read" else numbers) == right, file
     for edition, switching, right in ((1, 1, 510), (2, 128, 32768), (3, 1, 1), (3, 128, 128), (3, 257, 257), (3, 65535, 65535)):

@@ -3,16 +3,18 @@
 calls_cases.py --check DIR: says whether they still are what it would write.
 
 stdin: records, each the length of a block file (2 bytes, high byte first), four increases of 4 bytes each, and the file's bytes.
-stdout: for each record what document 01, and K2 and K3 in document 02, say of the slacks, to six lent elements and to three,
-and of the judging of the four increases and of the first three, by the reader of second_opinion.py, which shares nothing with
-the crate. Lent elements that are not written stay 77777; a slack below 0 is printed as late."""
+stdout: for each record what document 01, and K2, K3 and K10 in document 02, say of the slacks, to six lent elements and to
+three, and of the judging of the four increases and of the first three, by the reader of second_opinion.py, which shares nothing
+with the crate. Lent elements that are not written stay 77777; a slack below 0 is printed as late."""
 from pathlib import Path
 
+from limit_files import EDITIONS, LIMIT_FILES, LOOPED_FILES, full, refused_before
 from second_opinion import Block, Refused
 from small_files import SMALL_FILES
 from stored import store
 
-MOST_BYTES = 8192
+# of the program's input
+MOST_BYTES = 65_536
 ROOT = Path(__file__).resolve().parents[2]
 UNWRITTEN = 77777
 
@@ -86,6 +88,19 @@ def records():
         yield file, (0, 0, 0, 0)
     for file, increases, _ in measured_records():
         yield file, increases
+    for file in limit_files():
+        yield file, (0, 0, 0, 0)
+
+
+def limit_files():
+    """Files at the limits of gates and wires in every edition, and with more of both than document 01 allowed; files whose last
+    wire closes a loop, and with a byte behind it."""
+    for edition in EDITIONS:
+        yield full(edition)
+        yield refused_before(edition)
+    yield LOOPED_FILES[0][0]
+    yield LOOPED_FILES[-1][0]
+    yield full(2) + b"\3"
 
 
 def delayed_records():
@@ -177,7 +192,7 @@ def check_by_hand():
     for file, increases, right in measured_records():
         judged = answered(lambda: Block(file).judge(increases))
         assert (judged.args if isinstance(judged, Refused) else judged) == right, file
-    for file, right in SMALL_FILES:
+    for file, right in SMALL_FILES + LIMIT_FILES + LOOPED_FILES:
         block = answered(lambda: Block(file))
         assert (block.args if isinstance(block, Refused) else len(block.wires)) == right, file
 

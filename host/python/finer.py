@@ -1,16 +1,15 @@
 """Blocks in finer ticks (document 02, K14): which block is another one in finer ticks, and what must be printed for it."""
 
-from copy import copy
-
 
 def in_finer_ticks(block, m):
     """The block with every time m times as long."""
-    finer = copy(block)
-    finer.arrival, finer.deadline = m * block.arrival, m * block.deadline
-    finer.delay = [m * delay for delay in block.delay]
-    finer.steps = [[(m * width, drop) for width, drop in steps] for steps in block.steps]
-    finer.wire_delay = {wire: m * delay for wire, delay in block.wire_delay.items()}
-    return finer
+    return block.changed(
+        arrival=m * block.arrival,
+        deadline=m * block.deadline,
+        delay=[m * delay for delay in block.delay],
+        steps=[[(m * width, drop) for width, drop in steps] for steps in block.steps],
+        wire_delay={wire: m * delay for wire, delay in block.wire_delay.items()},
+    )
 
 
 def all_times(block):

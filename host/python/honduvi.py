@@ -17,8 +17,9 @@ from collections import namedtuple
 from ctypes import POINTER, c_char_p, c_int32, c_size_t, c_uint8, c_uint32, c_uint64
 
 NAME = "libhonduvi.so"
-MAX_GATES = 64
-MAX_PAIRS = 512
+MAX_GATES = 200
+# a curve has at most 8 pairs for each gate
+MAX_PAIRS = 8 * MAX_GATES
 
 Best = namedtuple("Best", "saving increases")
 
@@ -66,7 +67,7 @@ _NUMBERS = [POINTER(c_uint32), c_size_t]
 _CALLS = {
     "honduvi_best_increases": (_Answer, _FILE + [POINTER(c_uint8), c_size_t]),
     "honduvi_slacks": (_Answer, _FILE + [POINTER(c_int32), c_size_t]),
-    "honduvi_curve": (_CurveAnswer, _FILE + _NUMBERS + _NUMBERS),
+    "honduvi_curve": (_CurveAnswer, _FILE + _NUMBERS + [POINTER(c_uint64), c_size_t]),
     "honduvi_judge": (_Answer, _FILE + _NUMBERS),
     "honduvi_fewest_ticks": (_TicksAnswer, _FILE + [c_uint64]),
 }
@@ -116,7 +117,7 @@ class Library:
 
     def curve(self, file):
         """The saving curve: start, saving at start, and the pairs (width, gain)."""
-        widths, gains = (c_uint32 * MAX_PAIRS)(), (c_uint32 * MAX_PAIRS)()
+        widths, gains = (c_uint32 * MAX_PAIRS)(), (c_uint64 * MAX_PAIRS)()
         answer = self._call("curve", file, widths, MAX_PAIRS, gains, MAX_PAIRS)
         return Curve(answer.start, answer.at_start, list(zip(widths[: answer.pairs], gains[: answer.pairs])))
 

@@ -1,8 +1,7 @@
 """Mistakes that the second opinion must notice: each function yields the lines of a stored case once more for every mistake."""
 
-from copy import copy
-
-from ticks import Asked, ticks_word
+from limits import MAX_PAIRS
+from ticks import Asked, counted_off, ticks_word
 
 WIRES_MISTAKEN = 4
 
@@ -57,7 +56,7 @@ def wrong_places(lines):
     yield lines[:3] + ["best refused 11 0 kept"] + lines[4:]
     words = lines[4].split(" ")
     for i, right in enumerate(words[1:], 1):
-        for wrong in (["11:0"], ["17:0"], ["0"], [], ["10:512"], [right, right]):
+        for wrong in (["11:0"], ["17:0"], ["0"], [], ["10:%d" % MAX_PAIRS], [right, right]):
             yield lines[:4] + [" ".join(words[:i] + wrong + words[i + 1 :])] + lines[5:]
 
 
@@ -67,15 +66,14 @@ def mistaken_delays(block):
     delayed = [wire for wire in block.wires if block.wire_delay[wire]]
     for wires in [delayed] + [[wire] for wire in delayed[:WIRES_MISTAKEN]]:
         for wrong in (lambda d: 0, lambda d: 2 * d, lambda d: d % 256, lambda d: d // 256, lambda d: d % 256 * 256 + d // 256):
-            other = copy(block)
-            other.wire_delay = {**block.wire_delay, **{wire: wrong(block.wire_delay[wire]) for wire in wires}}
-            yield other
+            yield block.changed(wire_delay={**block.wire_delay, **{wire: wrong(block.wire_delay[wire]) for wire in wires}})
 
 
 def wrong_slacks(block, other):
     """The slacks with the delays of another block only on the way to a gate, and only on the way behind it."""
-    yield block.slacks_between(other, block)
-    yield block.slacks_between(block, other)
+    none = [0] * block.n
+    yield block.slacks_between(other, block, none)
+    yield block.slacks_between(block, other, none)
 
 
 def all_or_one(lines, wrong):
@@ -126,8 +124,7 @@ ACTIVITY_MISTAKES = {
 def wrong_activities(case, lines, mistaken):
     """The lines of a case, each time with all of them, or one of them, as activities mistaken in one way would give them, where
     that makes a difference."""
-    other = copy(case.block)
-    other.activity = case.block.input_activities(*mistaken)
+    other = case.block.changed(activity=case.block.input_activities(*mistaken))
     yield from different(lines, all_or_one(lines, case.lines_with(other)))
 
 
@@ -135,6 +132,27 @@ def wrong_order(case, lines, best):
     """The lines of a case, each time with all of them, or one of them, as another best list would give them, where that makes a
     difference."""
     yield from different(lines, all_or_one(lines, case.lines_with(case.block, best)))
+
+
+# How gains that 32 bits do not hold can be mistaken (document 02, K10).
+GAIN_MISTAKES = {
+    "their low 32 bits": lambda gain: gain % 2**32,
+    "a cut at 32 bits": lambda gain: min(gain, 2**32 - 1),
+}
+
+
+def wrong_gains(case, lines, mistaken):
+    """The lines of a case, each time with all of them, or one of them, as gains mistaken in one way would give them, where that
+    makes a difference."""
+    start, at_start, count, *pairs = case.numbers("curve", 3)
+    pairs[1::2] = map(mistaken, pairs[1::2])
+    _, *increases = case.numbers("best", 1)
+    saving = counted_off(at_start, pairs, case.block.spare())
+    wrong = list(lines)
+    wrong[2] = " ".join(map(str, ["curve", start, at_start, count, *pairs, "kept"]))
+    wrong[3] = " ".join(map(str, ["best", saving, *increases, "kept"]))
+    wrong[5] = "judge %d" % saving
+    yield from different(lines, all_or_one(lines, wrong))
 
 
 # How the fewest ticks for a wanted saving can be mistaken (ticks.py says what is asked).

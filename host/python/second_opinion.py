@@ -1,5 +1,5 @@
-"""A second reader of document 01, and of K1, K2, K3, K6, K8 and K14 in document 02, in another language: holds the stored cases
-to them.
+"""A second reader of document 01, and of K1, K2, K3, K6, K8, K10 and K14 in document 02, in another language: holds the stored
+cases to them.
 
 second_opinion.py DIR reads DIR/stdin and DIR/stdout as host/CASES.md describes them. Which lines there are, refusals, slacks
 and judging are checked for every case, the place of 11 by taking gates away and merging wires in several orders; the best list
@@ -14,30 +14,35 @@ its gains to the same, and so are the fewest ticks for m times a saving that som
 At the end mistakes are put into the lines of some larger blocks, given an answer or refused with 11, and into those of some
 blocks with wire delays or with measured activities the lines that mistaken delays or activities would give, and into those of
 some blocks with ties the lines of a best list that comes later, and into those of some of all sizes, late ones among them,
-mistaken numbers of ticks (mistakes.py); each must be noticed.
+mistaken numbers of ticks, and into those of some with gains that 32 bits do not hold the lines that gains cut to 32 bits would
+give (mistakes.py); each must be noticed. The cases must reach the limits of gates, wires, pairs and gains (document 02, K10).
 """
 
 import itertools
 import sys
-from collections import Counter, defaultdict
-from functools import lru_cache, partial
+from collections import defaultdict
+from copy import copy
+from functools import lru_cache, partial, wraps
 from pathlib import Path
 from random import Random
 
-from editions import MOST_ACTIVITY, MOST_SWITCHING, WIRE_LENGTH, activity, is_measured
+from editions import MOST_SWITCHING, WIRE_LENGTH, activity, is_measured
 from finer import in_finer_words, times_as_fine
-from mistakes import ACTIVITY_MISTAKES, TICKS_MISTAKES, wrong_activities, wrong_answers, wrong_delays, wrong_lines, wrong_order
-from mistakes import wrong_places, wrong_ticks
+from limits import MAX_DELAY, MAX_DROP, MAX_GATES, MAX_PAIRS, MAX_STEPS, MAX_WIDTH, MAX_WIRES, largest_gain
+from mistakes import ACTIVITY_MISTAKES, GAIN_MISTAKES, TICKS_MISTAKES, wrong_activities, wrong_answers, wrong_delays
+from mistakes import wrong_gains, wrong_lines, wrong_order, wrong_places, wrong_ticks
 from ticks import BEYOND, Asked, counted_off, fewest_on, ticks_word
 
-MOST_LISTS = 2_000
-MOST_WIRES = 8
+# a small block has at most so many lists and wires
+SMALL_LISTS = 2_000
+SMALL_WIRES = 8
 ORDERS = 3
 BLOCKS_MISTAKEN = 10
 BLOCKS_APART = 5
 # so many blocks given an answer must stand there in finer ticks too
 LEAST_FINER = 100
-MOST_PAIRS = 512
+# so many gates, wires and pairs must be reached, and a gain so large
+REACHED = [MAX_GATES, MAX_WIRES, MAX_PAIRS, largest_gain(3)]
 # bytes of a record in front of its wanted savings, and the most of these
 HEAD = 13
 MOST_WANTED = 8
@@ -71,6 +76,19 @@ def take_field(data, at, tag, lengths):
     return data[at + 3 : at + 3 + length]
 
 
+def remembered(function):
+    """The function of a block and of arguments, which finds each answer once."""
+
+    @wraps(function)
+    def found(block, *arguments):
+        key = function.__name__, *arguments
+        if key not in block.found:
+            block.found[key] = function(block, *arguments)
+        return block.found[key]
+
+    return found
+
+
 class Block:
     def __init__(self, data):
         head = take_field(data, 0, 1, {8})
@@ -78,26 +96,29 @@ class Block:
         # the number that the file gives for the switching of a net: the probability of a 1 in 256ths up to edition 2, its
         # measured activity from edition 3 on
         self.arrival, self.deadline, self.switching = number(head, 2), number(head, 4), number(head, 6)
-        if self.edition not in MOST_SWITCHING or not 1 <= self.n <= 64 or self.switching > MOST_SWITCHING[self.edition]:
+        if self.edition not in MOST_SWITCHING or not 1 <= self.n <= MAX_GATES or self.switching > MOST_SWITCHING[self.edition]:
             raise Refused(4, 0)
+        self.found = {}
         self.delay, self.gate_switching, self.steps, self.wires, self.wire_delay = [], [], [], [], {}
         at = 11
         for _ in range(self.n):
             at = self.read_gate(data, at)
         while at < len(data):
             at = self.read_wire(data, at)
-        self.into = [[a for a, b in self.wires if b == g] for g in range(self.n)]
-        self.out = [[b for a, b in self.wires if a == g] for g in range(self.n)]
+        self.into, self.out = [[] for _ in range(self.n)], [[] for _ in range(self.n)]
+        for a, b in self.wires:
+            self.into[b].append(a)
+            self.out[a].append(b)
         self.check_network()
         self.order = self.sorted_gates()
         by_edition = partial(activity, self.edition)
         self.activity = self.input_activities(by_edition, by_edition)
 
     def read_gate(self, data, at):
-        body = take_field(data, at, 2, set(range(4, 37, 4)))
+        body = take_field(data, at, 2, {4 + 4 * k for k in range(MAX_STEPS + 1)})
         steps = [(number(body, i), number(body, i + 2)) for i in range(4, len(body), 4)]
-        ranges = number(body, 0) < 4096 and number(body, 2) <= MOST_SWITCHING[self.edition]
-        if not ranges or not all(1 <= w <= 4095 and 1 <= d <= 1000 for w, d in steps):
+        ranges = number(body, 0) <= MAX_DELAY and number(body, 2) <= MOST_SWITCHING[self.edition]
+        if not ranges or not all(1 <= w <= MAX_WIDTH and 1 <= d <= MAX_DROP for w, d in steps):
             raise Refused(4, at)
         drops = [d for _, d in steps]
         if drops != sorted(set(drops), reverse=True):
@@ -108,17 +129,23 @@ class Block:
         return at + 3 + len(body)
 
     def read_wire(self, data, at):
-        if len(self.wires) == 256:
+        if len(self.wires) == MAX_WIRES:
             raise Refused(7, at)
         body = take_field(data, at, 3, {WIRE_LENGTH[self.edition]})
         a, b, delay = body[0], body[1], int.from_bytes(body[2:], "big")
-        if max(a, b) >= self.n or delay > 4095:
+        if max(a, b) >= self.n or delay > MAX_DELAY:
             raise Refused(4, at)
-        if a == b or (a, b) in self.wires:
+        if a == b or (a, b) in self.wire_delay:
             raise Refused(6, at)
         self.wires.append((a, b))
         self.wire_delay[a, b] = delay
         return at + 3 + len(body)
+
+    def changed(self, **attributes):
+        """The block with other attributes in place of these."""
+        other = copy(self)
+        vars(other).update(attributes, found={})
+        return other
 
     def input_activities(self, of_input, of_output):
         """The input activity of each gate, where these functions give the activities of the nets by the file's numbers."""
@@ -163,20 +190,21 @@ class Block:
     def longest(self, increases):
         return self.lasts(increases)[self.n - 1]
 
-    def required(self):
+    def required(self, increases):
         """The deadline, carried backwards to each gate's output."""
         time = [self.deadline] * self.n
         for g in reversed(self.order):
-            behind = [time[b] - self.delay[b] - self.wire_delay[g, b] for b in self.out[g]]
+            behind = [time[b] - self.delay[b] - increases[b] - self.wire_delay[g, b] for b in self.out[g]]
             time[g] = min(behind, default=self.deadline)
         return time
 
+    @remembered
     def slacks(self):
-        return self.slacks_between(self, self)
+        return self.slacks_between(self, self, [0] * self.n)
 
-    def slacks_between(self, before, behind):
+    def slacks_between(self, before, behind, increases):
         """Required time minus source delay, for each gate: as one block has it before a gate, and another behind it."""
-        lasts, required = before.lasts([0] * self.n), behind.required()
+        lasts, required = before.lasts(increases), behind.required(increases)
         return [latest - (self.arrival + longest) for longest, latest in zip(lasts, required)]
 
     def widths(self, g):
@@ -195,13 +223,21 @@ class Block:
         free = [self.gain(g, increases[g]) for g in range(self.n)]
         for g in range(self.n):
             taken = self.gain(g, increases[g] - 1) if increases[g] else None
-            for other in targets(g):
-                if taken is not None and free[other] == taken:
-                    moved = list(increases)
-                    moved[g] -= 1
-                    moved[other] += 1
-                    if self.arrival + self.longest(moved) <= self.deadline:
-                        yield moved
+            others = [other for other in targets(g) if taken is not None and free[other] == taken]
+            if not others:
+                continue
+            less = list(increases)
+            less[g] -= 1
+            slacks = self.slacks_between(self, self, less)
+            for other in others:
+                if min(slacks) >= 0 and slacks[other] >= 1:
+                    yield less[:other] + [less[other] + 1] + less[other + 1 :]
+
+    @remembered
+    def comes_later(self, increases):
+        """Whether a list in time that saves as much comes before this one: with a tick moved from a gate g to one of range(g),
+        those below it."""
+        return any(self.moves(increases, range))
 
     def saving(self, increases):
         total = 0
@@ -220,11 +256,34 @@ class Block:
             raise Refused(14, 0)
         return self.saving(increases)
 
+    def judged(self, increases, g, increase):
+        """What judging says of a list with this increase at a gate, as a word."""
+        changed = list(increases)
+        changed[g] = increase
+        return answer(lambda: [self.judge(changed)]).replace("refused ", "").replace(" ", ":")
+
+    @remembered
+    def judged_with_more(self, increases):
+        """What judging says of each list with one tick more at a gate, by the slacks that the increases leave, as words."""
+        beyond = [g for g in range(self.n) if increases[g] > self.widths(g)]
+        slacks, saving = self.slacks_between(self, self, increases), self.saving(increases)
+        late, words = min(slacks) < 0, []
+        for g in range(self.n):
+            faults = beyond + [g] * (increases[g] == self.widths(g))
+            if faults:
+                words.append("13:%d" % min(faults))
+            else:
+                words.append("14:0" if late or slacks[g] == 0 else str(saving + self.gain(g, increases[g])))
+        if self.is_small() and words != [self.judged(increases, g, increases[g] + 1) for g in range(self.n)]:
+            raise Wrong("judging by slacks and by paths disagree: %s" % (increases,))
+        return " ".join(words)
+
+    @remembered
     def is_small(self):
         count = 1
         for g in range(self.n):
             count *= self.widths(g) + 1
-        return count <= MOST_LISTS and len(self.wires) <= MOST_WIRES
+        return count <= SMALL_LISTS and len(self.wires) <= SMALL_WIRES
 
     def series_parallel(self):
         """By splitting the wires in every way, from the whole down to single wires."""
@@ -257,21 +316,35 @@ class Block:
         """Whether the block is series-parallel, by taking away gates with one wire in and one wire out. For any size."""
         into, out = list(map(set, self.into)), list(map(set, self.out))
         left = set(range(1, self.n - 1))
-        while True:
-            gate = next((g for g in left if len(into[g]) == len(out[g]) == 1), None)
-            if gate is None:
-                return not left
+        waiting = sorted(left)
+        while waiting:
+            gate = waiting.pop()
+            if gate not in left or not len(into[gate]) == len(out[gate]) == 1:
+                continue
             left.remove(gate)
             (a,), (b,) = into[gate], out[gate]
-            out[a] = out[a] - {gate} | {b}
-            into[b] = into[b] - {gate} | {a}
+            out[a].remove(gate)
+            out[a].add(b)
+            into[b].remove(gate)
+            into[b].add(a)
+            waiting += [a, b]
+        return not left
 
     def earning(self):
         """Every tick that earns something."""
         return [self.widths(g) if self.activity[g] else 0 for g in range(self.n)]
 
+    @remembered
+    def whole(self):
+        """What every tick earns, and how long the longest path lasts with all that earn something."""
+        return self.saving(self.earning()), self.longest(self.earning())
+
+    @remembered
+    def start(self):
+        return self.longest([0] * self.n)
+
     def spare(self):
-        return self.deadline - self.arrival - self.longest([0] * self.n)
+        return self.deadline - self.arrival - self.start()
 
     def says(self):
         """All that the answers depend on."""
@@ -289,39 +362,42 @@ class Block:
             yield increases, self.longest(increases), self.saving(increases)
 
 
-def reduce_once(wires, left, random):
-    """Takes away a gate with one wire in and one wire out, joining the two wires, or merges two wires of a doubled one, chosen
-    at random among all that apply. Whether any did. How often each wire stands is in wires, the gates left are in left."""
-    into, out = Counter(), Counter()
-    for (a, b), times in wires.items():
-        into[b] += times
-        out[a] += times
-    takings = [g for g in sorted(left) if into[g] == out[g] == 1]
-    mergings = [wire for wire, times in wires.items() if times > 1]
-    if not takings + mergings:
-        return False
-    chosen = random.choice(takings + mergings)
-    if chosen in mergings:
-        wires[chosen] -= 1
-        return True
-    ((a, _),) = [wire for wire in wires if wire[1] == chosen]
-    ((_, b),) = [wire for wire in wires if wire[0] == chosen]
-    del wires[a, chosen], wires[chosen, b]
-    wires[a, b] += 1
-    left.remove(chosen)
-    return True
+def reduced(n, wires, random):
+    """The gates and the wires left when gates with one wire in and one wire out are taken away, joining the two wires, and the
+    two wires of a doubled one are merged, one step after another, each chosen at random among all that apply."""
+    # how often a wire stands: from each gate to each, and backwards
+    out, into = [{} for _ in range(n)], [{} for _ in range(n)]
+
+    def join(a, b, times):
+        out[a][b] = into[b][a] = out[a].get(b, 0) + times
+
+    for a, b in wires:
+        join(a, b, 1)
+    # gates and wires, all those among them that a step applies to
+    left, steps = set(range(n)), list(range(n))
+    while steps:
+        at = random.randrange(len(steps))
+        steps[at], steps[-1] = steps[-1], steps[at]
+        step = steps.pop()
+        if isinstance(step, tuple):
+            a, b = step
+            if out[a].get(b, 0) > 1:
+                join(a, b, -1)
+                steps += [a, b, step]
+        elif step in left and list(into[step].values()) == list(out[step].values()) == [1]:
+            (a,), (b,) = into[step], out[step]
+            del out[a][step], into[b][step]
+            left.remove(step)
+            join(a, b, 1)
+            steps.append((a, b))
+    return frozenset(left), {(a, b) for a in left for b in out[a]}
 
 
 @lru_cache(maxsize=None)
 def lowest_left(n, wires):
     """The place of 11 (document 02, K1), or None where no gate is left but the first and the last. Several orders of taking
     gates away and merging wires must leave the same gates."""
-    ends = set()
-    for seed in range(ORDERS):
-        counted, left, random = Counter(wires), set(range(n)), Random(seed)
-        while reduce_once(counted, left, random):
-            pass
-        ends.add(frozenset(left))
+    ends = {reduced(n, wires, Random(seed))[0] for seed in range(ORDERS)}
     if len(ends) != 1:
         raise Wrong("the gates left depend on the order: %s" % (wires,))
     return min(ends.pop() - {0, n - 1}, default=None)
@@ -352,7 +428,7 @@ def from_gate_0(increases):
 def tied_and_curve(block):
     """The greatest saving in time, every list that has it, the curve as words, and the greatest saving of the lists that make
     the longest path longer by so many ticks, from every list."""
-    start = block.longest([0] * block.n)
+    start = block.start()
     most, tied, savings = 0, [], {}
     for increases, longest, saving in block.every_list():
         savings[longest - start] = max(savings.get(longest - start, 0), saving)
@@ -382,6 +458,7 @@ def best_list(block, order):
     return in_words((saving, *min(tied, key=order))) if tied else "refused 12 0"
 
 
+@remembered
 def settled(block):
     """Best list and curve as words; None for an answer that is given and needs more than a few lists to find."""
     place = lowest_left(block.n, tuple(block.wires))
@@ -413,6 +490,7 @@ class Case:
         behind = HEAD + 8 * record[12]
         self.wanted = [int.from_bytes(record[at : at + 8], "big") for at in range(HEAD, behind, 8)]
         self.ends_in_blank = any(line.endswith(" ") for line in lines)
+        self.read_numbers = {}
         self.names = [line.split(" ")[0] for line in lines]
         self.lines = {name: line[len(name) + 1 :] for name, line in zip(self.names, lines)}
         self.block, self.refused = read(record[behind:])
@@ -426,11 +504,12 @@ class Case:
 
     def numbers(self, name, least):
         """The numbers of an answer, at least so many; behind them stands that nothing else was written."""
-        words = self.lines[name].split(" ")[:-1]
-        self.hold(len(words) >= least and all(word.isdigit() for word in words), name, "numbers should stand here")
-        numbers = list(map(int, words))
-        self.expect(name, in_words(numbers) + " kept")
-        return numbers
+        if name not in self.read_numbers:
+            words = self.lines[name].split(" ")[:-1]
+            self.hold(len(words) >= least and all(word.isdigit() for word in words), name, "numbers should stand here")
+            self.read_numbers[name] = list(map(int, words))
+            self.expect(name, in_words(self.read_numbers[name]) + " kept")
+        return self.read_numbers[name]
 
     def check(self):
         """Whether the best list and the curve were found by trying everything."""
@@ -448,8 +527,8 @@ class Case:
         best, curve = settled(self.block)
         if not given:
             best = short
-        if min(self.lent_widths, self.lent_gains) < MOST_PAIRS:
-            curve = "refused 10 512"
+        if min(self.lent_widths, self.lent_gains) < MAX_PAIRS:
+            curve = "refused 10 %d" % MAX_PAIRS
         self.expect("slacks", (in_words(self.block.slacks()) if given else short) + " kept")
         self.expect("curve", curve + " kept") if curve else self.check_curve()
         self.expect("best", best + " kept") if best else self.check_best()
@@ -475,15 +554,15 @@ class Case:
         block = self.block
         start, at_start, count, *pairs = self.numbers("curve", 3)
         widths, gains = pairs[0::2], pairs[1::2]
-        self.hold(start == block.longest([0] * block.n), "curve", "start")
-        self.hold(len(widths) == len(gains) == count <= MOST_PAIRS, "curve", "count of pairs")
+        self.hold(start == block.start(), "curve", "start")
+        self.hold(len(widths) == len(gains) == count <= MAX_PAIRS, "curve", "count of pairs")
         self.hold(all(width >= 1 for width in widths), "curve", "widths of at least 1")
-        largest_gain = 63 * MOST_ACTIVITY[block.edition] * 1_000
-        between = [largest_gain + 1] + gains + [0]
+        between = [largest_gain(block.edition) + 1] + gains + [0]
         self.hold(between == sorted(set(between), reverse=True), "curve", "gains that fall strictly and stay above 0")
-        self.hold(start + sum(widths) == block.longest(block.earning()), "curve", "ends where every tick that earns is in time")
-        whole = at_start + sum(width * gain for width, gain in zip(widths, gains))
-        self.hold(whole == block.saving(block.earning()), "curve", "what every tick earns")
+        whole, end = block.whole()
+        self.hold(start + sum(widths) == end, "curve", "ends where every tick that earns is in time")
+        earned = at_start + sum(width * gain for width, gain in zip(widths, gains))
+        self.hold(earned == whole, "curve", "what every tick earns")
 
     def check_best(self):
         """What is settled of a best list without trying lists, but for what judging says of it."""
@@ -495,8 +574,7 @@ class Case:
             _, at_start, _, *pairs = self.numbers("curve", 3)
             counted = counted_off(at_start, pairs, self.block.spare())
             self.hold(counted == saving, "best", "the curve says %d" % counted)
-        # with a tick of gate g at one of the gates range(g), those below it, the list would come first
-        self.hold(not any(self.block.moves(increases, range)), "best", "a tick belongs to a lower gate")
+        self.hold(not self.block.comes_later(tuple(increases)), "best", "a tick belongs to a lower gate")
 
     def refused_ticks(self, refused):
         """The words of the fewest ticks, where all of them are refused."""
@@ -516,14 +594,14 @@ class Case:
     def check_ticks(self):
         """The fewest ticks for each wanted saving. The block's own arrival and deadline play no part, and nothing is lent."""
         self.expect("ticks", self.ticks_with(self.block))
-        block, every = self.block, self.block.earning()
-        most, whole = block.longest(every) - block.longest([0] * block.n), block.saving(every)
+        block, (whole, end) = self.block, self.block.whole()
         best = None if self.lines["best"].startswith("refused") else int(self.lines["best"].split(" ")[0])
         for wanted, word in zip(self.wanted, self.lines["ticks"].split()):
             if word.startswith("11:"):
                 continue
             ticks = float("inf") if word == BEYOND else int(word)
             self.hold((word == BEYOND) == (wanted > whole), "ticks", "all ticks earn %d" % whole)
+            most = end - block.start()
             self.hold(wanted != whole or ticks == most, "ticks", "%d let every tick that earns be in time" % most)
             as_best = best is None or (ticks <= block.spare()) == (wanted <= best)
             self.hold(as_best, "ticks", "the best list saves %s with %d" % (best, block.spare()))
@@ -540,6 +618,17 @@ class Case:
             return []
         given = [(i, each) for i, each in enumerate(self.asked()) if each.ticks is not None]
         return [(i, each.ticks) for i, each in given if each.earned() == each.wanted]
+
+    def reaches(self):
+        """The gates and wires of the block, the pairs of its curve and their largest gain; 0 for what is refused."""
+        if self.refused:
+            return 0, 0, 0, 0
+        gains = [] if self.lines["curve"].startswith("refused") else self.numbers("curve", 3)[4::2]
+        return self.block.n, len(self.block.wires), len(gains), max(gains, default=0)
+
+    def has_wide_gains(self):
+        """Whether curve and best list are given, and 32 bits do not hold every gain."""
+        return self.is_given() and self.reaches()[3] >= 2**32
 
     def got_11(self):
         return all(self.lines[name].startswith("refused 11 ") for name in ("curve", "best"))
@@ -589,31 +678,23 @@ class Case:
         if not self.lines["best"].startswith("refused"):
             saving, *increases = self.numbers("best", 1)
             self.expect("judge", str(saving))
-        for name, words in self.judging(self.block, increases).items():
+        for name, words in self.judging(self.block, increases):
             self.expect(name, words)
         self.hold(self.beyond == self.block.widths(self.gate) + 1, "beyond", "one tick beyond the width was meant")
 
     def judging(self, block, increases):
-        """The four lines that judging gives, where the list in hand is this."""
-
-        def judged(g, increase):
-            changed = increases[:g] + [increase] + increases[g + 1 :]
-            return answer(lambda: [block.judge(changed)]).replace("refused ", "").replace(" ", ":")
-
-        return {
-            "judge": answer(lambda: [block.judge(increases)]),
-            "more": " ".join(judged(g, increases[g] + 1) for g in range(block.n)),
-            "beyond": judged(self.gate, self.beyond),
-            "largest": judged(self.gate, 2**32 - 1),
-        }
+        """The four lines that judging gives, one after another, where the list in hand is this."""
+        yield "judge", answer(lambda: [block.judge(increases)])
+        yield "more", block.judged_with_more(tuple(increases))
+        yield "beyond", block.judged(increases, self.gate, self.beyond)
+        yield "largest", block.judged(increases, self.gate, 2**32 - 1)
 
     def lines_with(self, block, best=None):
         """The lines that another block of the same gates and wires would have, with this best list if one is given. Of a larger
         block stay the best list, and of the curve all but start."""
         right, curve = settled(block)
         best = best or right or self.lines["best"][: -len(" kept")]
-        start = block.longest([0] * block.n)
-        curve = curve or " ".join([str(start)] + self.lines["curve"].split(" ")[1:-1])
+        curve = curve or " ".join([str(block.start())] + self.lines["curve"].split(" ")[1:-1])
         increases = [0] * block.n if best.startswith("refused") else list(map(int, best.split(" ")[1:]))
         slacks = in_words(block.slacks())
         lines = {"case": self.lines["case"], "slacks": slacks + " kept", "curve": curve + " kept", "best": best + " kept"}
@@ -707,33 +788,61 @@ def put_into_ticks(last):
     return total
 
 
-def check_all(data, text):
-    """Holds every record to the lines printed for it; then puts mistakes into some of the last cases of each kind."""
-    count = tried = finer = 0
-    kinds = defaultdict(list)
-    before = None
-    for stored in stored_cases(data, text):
+def put_into_gains(last):
+    """The same with mistaken gains, where 32 bits do not hold them; each kind of mistake changes the lines of each block."""
+    total = 0
+    for stored in last("wide gains", apart=1):
+        for name, mistaken in GAIN_MISTAKES.items():
+            noticed = mistakes_noticed(stored, wrong_gains(Case(*stored), stored[2], mistaken))
+            if not noticed:
+                raise Wrong("gains mistaken by %s do not change the lines of case %d" % (name, stored[0]))
+            total += noticed
+    return total
+
+
+class Checked:
+    """The cases that were held to their lines: how many, those of each kind, and how far they go."""
+
+    def __init__(self):
+        self.count = self.tried = self.finer = 0
+        self.kinds, self.reached = defaultdict(list), [0] * len(REACHED)
+
+    def check(self, stored, before):
+        """Holds a case to its lines, and to those of the case before where its block is the same in finer ticks; the case."""
         case = Case(*stored)
         small = case.check()
-        finer += before is not None and case.check_finer(before)
-        before = case
-        count += 1
-        tried += small
-        for kind in case.kinds(small):
-            kinds[kind].append(stored)
+        self.count += 1
+        self.tried += small
+        self.finer += before is not None and case.check_finer(before)
+        self.reached = list(map(max, self.reached, case.reaches()))
+        for kind in case.kinds(small) + case.has_wide_gains() * ["wide gains"]:
+            self.kinds[kind].append(stored)
+        return case
 
-    if finer < LEAST_FINER:
-        raise Wrong("there are too few blocks in finer ticks: %d" % finer)
+    def check_enough(self):
+        if self.finer < LEAST_FINER:
+            raise Wrong("there are too few blocks in finer ticks: %d" % self.finer)
+        if self.reached != REACHED:
+            raise Wrong("gates, wires, pairs and gains reach %s in place of %s" % (self.reached, REACHED))
 
-    def last(kind):
-        if len(kinds[kind]) < BLOCKS_MISTAKEN * BLOCKS_APART:
+    def last(self, kind, apart=BLOCKS_APART):
+        """Some of the last cases of a kind."""
+        if len(self.kinds[kind]) < BLOCKS_MISTAKEN * apart:
             raise Wrong("there are too few blocks to put mistakes into: %s" % kind)
-        return kinds[kind][-BLOCKS_MISTAKEN * BLOCKS_APART :: BLOCKS_APART]
+        return self.kinds[kind][-BLOCKS_MISTAKEN * apart :: apart]
 
-    said = "%d cases, %d of them by trying every list, %d given m times the answers of the case before; %d mistakes put in were "
-    said += "noticed, and %d of wire delays, %d of activities, %d of the order of ties, %d of the fewest ticks"
-    kinds_of_mistakes = put_into_lines, put_into_delays, put_into_activities, put_into_order, put_into_ticks
-    return said % (count, tried, finer, *[put_into(last) for put_into in kinds_of_mistakes])
+
+def check_all(data, text):
+    """Holds every record to the lines printed for it; then puts mistakes into some of the last cases of each kind."""
+    checked, before = Checked(), None
+    for stored in stored_cases(data, text):
+        before = checked.check(stored, before)
+    checked.check_enough()
+    said = "%d cases, %d of them by trying every list, %d given m times the answers of the case before; "
+    said += "%d mistakes put in were noticed, and %d of wire delays, %d of activities, %d of the order of ties, "
+    said += "%d of the fewest ticks, %d of wide gains"
+    putting = put_into_lines, put_into_delays, put_into_activities, put_into_order, put_into_ticks, put_into_gains
+    return said % (checked.count, checked.tried, checked.finer, *[put_into(checked.last) for put_into in putting])
 
 
 def main():

@@ -1,5 +1,7 @@
 """Small block files with what the reading of each comes to, by hand: number and place of the refusal, or the count of wires."""
 
+from limits import MAX_GATES
+
 
 def head(n, high, low, edition=1):
     """A block field of n gates, arrival and deadline 0, with the two bytes of the number for the input's switching."""
@@ -20,9 +22,11 @@ SMALL_FILES = [
     (bytes([2, 0, 9]), (2, 0)),
     (bytes([1, 0, 9]), (3, 0)),
     (bytes([1, 0, 8, 2]), (1, 0)),
-    # 65 gates and none; p 257 and 256
-    (head(65, 0, 128), (4, 0)),
+    # 201 gates, 255 and none; 200 without any field of one; p 257 and 256
+    (head(MAX_GATES + 1, 0, 128), (4, 0)),
+    (head(255, 0, 128), (4, 0)),
     (head(0, 0, 128), (4, 0)),
+    (head(MAX_GATES, 0, 128), (1, 11)),
     (head(1, 1, 1), (4, 0)),
     (head(1, 1, 0) + PLAIN, 0),
     # a due gate is missing; a wire stands where a gate is due; 9 steps; drops that do not fall
@@ -49,12 +53,13 @@ SMALL_FILES = [
     # a second wire with another delay, and with one that is out of range
     (TWO_OF_EDITION_2 + bytes([3, 0, 4, 0, 1, 0, 5, 3, 0, 4, 0, 1, 0, 6]), (6, 32)),
     (TWO_OF_EDITION_2 + bytes([3, 0, 4, 0, 1, 0, 5, 3, 0, 4, 0, 1, 16, 0]), (4, 32)),
-    # edition 3: the number of the input 128, 257 and 65,535; in edition 2 257; 65 gates
+    # edition 3: the number of the input 128, 257 and 65,535; in edition 2 257; 201 gates in editions 2 and 3
     (head(1, 0, 128, 3) + PLAIN, 0),
     (head(1, 1, 1, 3) + PLAIN, 0),
     (head(1, 255, 255, 3) + PLAIN, 0),
     (head(1, 1, 1, 2) + PLAIN, (4, 0)),
-    (head(65, 255, 255, 3), (4, 0)),
+    (head(MAX_GATES + 1, 0, 128, 2), (4, 0)),
+    (head(MAX_GATES + 1, 255, 255, 3), (4, 0)),
     # the number of a gate 257 and 65,535; in editions 1 and 2 257; 65,535 with equal drops, and with a delay of 4,096
     (head(1, 0, 128, 3) + bytes([2, 0, 4, 0, 1, 1, 1]), 0),
     (head(1, 0, 128, 3) + bytes([2, 0, 4, 0, 1, 255, 255]), 0),

@@ -1,6 +1,8 @@
 """The fewest ticks for a wanted saving (document 02, K6), counted off a curve, and as words."""
 
 from bisect import bisect_left
+from itertools import accumulate
+from operator import mul
 from typing import NamedTuple
 
 # no number of ticks reaches what is wanted
@@ -16,11 +18,23 @@ def counted_off(at_start, pairs, spare):
     return total
 
 
+def ends_of_pairs(pairs):
+    """The ticks in front of a curve's pairs and at the end of each."""
+    return list(accumulate(pairs[0::2], initial=0))
+
+
 def fewest_on(at_start, pairs, wanted):
-    """The first number of ticks at which a curve says the wanted saving or more, by bisection; None if it says so nowhere."""
-    every = sum(pairs[0::2])
-    ticks = bisect_left(range(every + 1), wanted, key=lambda spare: counted_off(at_start, pairs, spare))
-    return None if ticks > every else ticks
+    """The first number of ticks at which a curve says the wanted saving or more, by bisection of its pairs and of the ticks of
+    one of them; None if it says so nowhere."""
+    gains = pairs[1::2]
+    savings = list(accumulate(map(mul, pairs[0::2], gains), initial=at_start))
+    pair = bisect_left(savings, wanted) - 1
+    if pair < 0:
+        return 0
+    if pair == len(gains):
+        return None
+    inside = range(savings[pair], savings[pair + 1] + 1, gains[pair])
+    return ends_of_pairs(pairs)[pair] + bisect_left(inside, wanted)
 
 
 def ticks_word(ticks):
@@ -57,8 +71,7 @@ class Asked(NamedTuple):
 
     def end_of_pair(self):
         """The end of the pair in which the ticks end."""
-        ends = [sum(self.pairs[0:at:2]) for at in range(0, len(self.pairs) + 1, 2)]
-        return None if self.ticks is None else min(end for end in ends if end >= self.ticks)
+        return None if self.ticks is None else min(end for end in ends_of_pairs(self.pairs) if end >= self.ticks)
 
     def within_spare(self):
         return None if self.ticks is None or self.ticks > self.spare else self.ticks

@@ -1,12 +1,9 @@
 //! What each call answers: its refusals in the order of document 01's table, then its values.
 
-use crate::block::{decode, refuse, Block, Refusal};
+use crate::block::{decode, refuse, Block, Refusal, MAX_PAIRS};
 use crate::random::Random;
 use crate::search::{Best, Curve};
 use crate::{exact, network, parts, timing};
-
-/// Elements that the curve's two slices need.
-pub const MAX_PAIRS: usize = 512;
 
 /// The fewest ticks for one wanted saving (document 02, K6), or the refusal.
 pub type FewestTicks = Result<u64, Refusal>;
@@ -102,14 +99,18 @@ pub fn layout_call(file: &[u8], lent: usize) -> Result<Best, Refusal> {
     best_of(&block, lent, 4 * block.gates.len())
 }
 
-/// The saving of a proposed list.
-pub fn judge(file: &[u8], lent: &[u32]) -> Result<u64, Refusal> {
-    let block = well_formed(file)?;
+/// The saving of a proposed list for a well-formed block.
+pub fn judge_of(block: &Block, lent: &[u32]) -> Result<u64, Refusal> {
     let n = block.gates.len();
     if lent.len() < n {
         return refuse(10, n);
     }
-    timing::judge(&block, &lent[..n])
+    timing::judge(block, &lent[..n])
+}
+
+/// The saving of a proposed list.
+pub fn judge(file: &[u8], lent: &[u32]) -> Result<u64, Refusal> {
+    judge_of(&well_formed(file)?, lent)
 }
 
 #[cfg(test)]

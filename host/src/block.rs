@@ -1,15 +1,21 @@
-//! The block file (document 01, "The block file"; document 02, K2 and K3): its numbers, reading with refusals 1 to 7, writing.
+//! The block file (document 01, "The block file"; document 02, K2, K3 and K10): its limits, reading with refusals 1 to 7, writing.
 
 use crate::edition::{activity, has_wire_delays, max_switching, wire_length, MAX_EDITION};
 
-pub const MAX_GATES: usize = 64;
-pub const MAX_WIRES: usize = 256;
+pub const MAX_GATES: usize = 200;
+pub const MAX_WIRES: usize = 600;
 pub const MAX_STEPS: usize = 8;
+/// Pairs of a curve: each of them ends some gate's step. The curve's two slices need so many elements.
+pub const MAX_PAIRS: usize = MAX_GATES * MAX_STEPS;
+/// Bytes of its standard input that the printing program reads.
+pub const MAX_BYTES: usize = 16_384;
 pub const MAX_DELAY: u32 = 4_095;
 pub const MAX_WIRE_DELAY: u32 = 4_095;
 pub const MAX_WIDTH: u32 = 4_095;
 pub const MAX_DROP: u32 = 1_000;
 pub const MAX_TIME: u32 = 65_535;
+/// Ticks of all steps of a block: no list needs more.
+pub const MAX_TICKS: u64 = MAX_PAIRS as u64 * MAX_WIDTH as u64;
 
 /// `width` ticks whose drop is `drop` each.
 #[derive(Clone, Copy, Debug, PartialEq, Eq)]

@@ -3,25 +3,26 @@
 
 pub mod edition_2;
 pub mod edition_3;
+pub mod large;
 pub mod ticks;
 
-use crate::block::{encode, Block, Gate, Step, Wire};
+use crate::block::{encode, Block, Gate, Step, Wire, MAX_GATES};
 use crate::generate::limits::{largest_gain, most_pairs, most_wires};
 use crate::worked::{diamond, paper_chain};
 
 /// A file, and the number and place of its refusal, or `None` where the best increases are given.
 pub struct Boundary {
-    pub name: &'static str,
+    pub name: String,
     pub file: Vec<u8>,
     pub refused: Option<(u32, u32)>,
 }
 
-fn refused(name: &'static str, file: Vec<u8>, number: u32, place: u32) -> Boundary {
-    Boundary { name, file, refused: Some((number, place)) }
+fn refused(name: &str, file: Vec<u8>, number: u32, place: u32) -> Boundary {
+    Boundary { name: name.to_string(), file, refused: Some((number, place)) }
 }
 
-fn accepted(name: &'static str, file: Vec<u8>) -> Boundary {
-    Boundary { name, file, refused: None }
+fn accepted(name: &str, file: Vec<u8>) -> Boundary {
+    Boundary { name: name.to_string(), file, refused: None }
 }
 
 /// Diamond D with deadline 10: the block field at 0, gates at 11, 18, 33 and 44, wires at 55, 60, 65 and 70, end 75.
@@ -76,8 +77,11 @@ fn in_series(gates: usize) -> Vec<(usize, usize)> {
 
 /// A chain of so many gates.
 fn chain(gates: usize) -> Vec<u8> {
-    wired(gates, &in_series(gates))
+    encode(&Block { deadline: 100.max(gates as u32), ..plain(gates, &in_series(gates)) })
 }
+
+/// The highest gate that a block can have.
+const LAST: u8 = MAX_GATES as u8 - 1;
 
 fn lone(gate: Gate) -> Vec<u8> {
     encode(&block(vec![gate], &[]))
@@ -147,8 +151,8 @@ fn ranges() -> Vec<Boundary> {
         refused("edition 2 with wires of 2 bytes", with(3, &[2]), 3, 55),
         refused("0 gates", with(4, &[0]), 4, 0),
         accepted("1 gate", chain(1)),
-        accepted("64 gates", chain(64)),
-        refused("65 gates", chain(65), 4, 0),
+        accepted("the most gates", chain(MAX_GATES)),
+        refused("a gate more", chain(MAX_GATES + 1), 4, 0),
         refused("255 gates", with(4, &[255]), 4, 0),
         accepted("p 256 at the input", with(9, &[1, 0])),
         refused("p 257 at the input", with(9, &[1, 1]), 4, 0),
@@ -193,10 +197,10 @@ fn drops_and_wires() -> Vec<Boundary> {
         refused("a wire that stood just before", with(63, &[0, 1]), 6, 60),
         refused("a wire and its opposite", and(d(), &[3, 0, 2, 1, 0]), 8, 0),
         // no gate has one wire in and one wire out, so all are left
-        refused("256 wires", full.clone(), 11, 1),
-        refused("a 257th wire", and(full.clone(), &[3, 0, 2, 0, 63]), 7, end),
-        refused("a single byte behind 256 wires", and(full.clone(), &[0]), 7, end),
-        refused("a wire that stood before, behind 256 wires", and(full, &[3, 0, 2, 0, 1]), 7, end),
+        refused("the most wires", full.clone(), 11, 1),
+        refused("a wire more", and(full.clone(), &[3, 0, 2, 0, LAST]), 7, end),
+        refused("a single byte behind the most wires", and(full.clone(), &[0]), 7, end),
+        refused("a wire that stood before, behind the most wires", and(full, &[3, 0, 2, 0, 1]), 7, end),
     ]
 }
 
@@ -239,7 +243,7 @@ fn networks() -> Vec<Boundary> {
 }
 
 /// Plain gates with the wires of all these parts, and the lowest gate left of them.
-fn left(name: &'static str, gates: usize, parts: &[&[(usize, usize)]], lowest: u32) -> Boundary {
+fn left(name: &str, gates: usize, parts: &[&[(usize, usize)]], lowest: u32) -> Boundary {
     refused(name, wired(gates, &parts.concat()), 11, lowest)
 }
 
@@ -274,14 +278,15 @@ fn bridges() -> Vec<Boundary> {
     ]
 }
 
-/// Networks of 64 gates of which only a bridge of the highest is left.
+/// Networks of the most gates of which only a bridge of the highest is left.
 fn high_bridges() -> Vec<Boundary> {
-    let side_by_side: Vec<(usize, usize)> = (1..60).flat_map(|g| [(0, g), (g, 60)]).collect();
-    let ladder: Vec<(usize, usize)> = (0..60).flat_map(|g| [(g, g + 1), (g, 63)]).chain([(60, 63)]).collect();
+    let [a, c, d, b] = [4, 3, 2, 1].map(|behind| MAX_GATES - behind);
+    let side_by_side: Vec<(usize, usize)> = (1..a).flat_map(|g| [(0, g), (g, a)]).collect();
+    let ladder: Vec<(usize, usize)> = (0..a).flat_map(|g| [(g, g + 1), (g, b)]).chain([(a, b)]).collect();
     vec![
-        left("59 gates side by side before a bridge", 64, &[&side_by_side, &bridge(60, 61, 62, 63)], 60),
-        // 60 goes, then 59 and so on down to 1, each when its wires out are merged
-        left("a ladder of 60 gates beside a bridge", 64, &[&ladder, &bridge(0, 61, 62, 63)], 61),
+        left("gates side by side before a bridge", MAX_GATES, &[&side_by_side, &bridge(a, c, d, b)], a as u32),
+        // a goes, then the gate before it and so on down to 1, each when its wires out are merged
+        left("a ladder beside a bridge", MAX_GATES, &[&ladder, &bridge(0, c, d, b)], c as u32),
     ]
 }
 
@@ -301,5 +306,6 @@ pub fn all() -> Vec<Boundary> {
     let mut all = edition_1();
     all.extend(edition_2::all());
     all.extend(edition_3::all());
+    all.extend(large::all());
     all
 }

@@ -1,13 +1,14 @@
 //! The stored blocks of the program `cases`, and what it must print for them. host/CASES.md describes both.
 
 mod groups;
+mod large;
 mod ticks;
 
-use crate::answers::{self, Answers, FewestTicks, MAX_PAIRS};
-use crate::block::{decode, encode, Block, Refusal, MAX_GATES};
+use crate::answers::{self, Answers, FewestTicks};
+use crate::block::{decode, encode, Block, Refusal, MAX_GATES, MAX_PAIRS};
 use crate::finer::{scaled_answers, scaled_ticks};
 use crate::generate::ties::has_ties;
-use crate::{parts, search};
+use crate::{merging, parts, search};
 pub use groups::all;
 use std::fmt::{Display, Write};
 
@@ -108,20 +109,20 @@ impl Case {
             list[..best.increases.len()].copy_from_slice(&best.increases);
         }
         line(&mut text, "judge", answers::judge(&self.file, &list).as_ref().map(u64::to_string), false);
-        if let Ok(slacks) = &answers.slacks {
-            self.judge_others(&mut text, slacks.len(), &list);
+        if answers.slacks.is_ok() {
+            self.judge_others(&mut text, &answers::well_formed(&self.file).expect("a block"), &list);
         }
         text
     }
 
     /// Judging of one tick more at each gate, of one tick beyond a width, and of the largest increase.
-    fn judge_others(&self, text: &mut String, gates: usize, list: &[u32]) {
+    fn judge_others(&self, text: &mut String, block: &Block, list: &[u32]) {
         let with = |gate: usize, increase: u32| {
             let mut list = list.to_vec();
             list[gate] = increase;
-            number_or_refusal(&answers::judge(&self.file, &list))
+            number_or_refusal(&answers::judge_of(block, &list))
         };
-        let more: Vec<String> = (0..gates).map(|g| with(g, list[g] + 1)).collect();
+        let more: Vec<String> = (0..block.gates.len()).map(|g| with(g, list[g] + 1)).collect();
         writeln!(text, "more {}", more.join(" ")).unwrap();
         writeln!(text, "beyond {}", with(self.gate, self.beyond)).unwrap();
         writeln!(text, "largest {}", with(self.gate, u32::MAX)).unwrap();
@@ -164,8 +165,16 @@ fn first_lines(answers: &Answers) -> String {
     text
 }
 
-/// What the program reads, and what it must print. A case that says the same as one of an earlier edition is answered as that
-/// one, and a case in finer ticks with so many times the answers of the case before.
+/// The best list by list merging, or its refusal.
+fn merged(file: &[u8]) -> Result<search::Best, Refusal> {
+    let mut increases = [0; MAX_GATES];
+    let (gates, saving) = merging::best_increases(file, &mut increases)?;
+    Ok(search::Best { increases: increases[..gates].to_vec(), saving })
+}
+
+/// What the program reads, and what it must print. Where enough is lent, list merging answers a case likewise. A case that says the
+/// same as one of an earlier edition is answered as that one, and a case in finer ticks with so many times the answers of the case
+/// before.
 pub fn written(cases: &[Case]) -> (Vec<u8>, String) {
     let mut input = Vec::new();
     let mut output = String::new();
@@ -173,6 +182,7 @@ pub fn written(cases: &[Case]) -> (Vec<u8>, String) {
     for (number, case) in cases.iter().enumerate() {
         let (answers, ticks) = (case.answers(), ticks::fewest(&case.file, &case.wanted));
         let printed = case.printed(&answers, &ticks);
+        assert!(case.lent < MAX_GATES || answers.best == merged(&case.file), "case {number} by list merging");
         if let Some(first) = case.twin_of {
             assert_eq!(printed, done[first].2, "case {number} and case {first}");
         }

@@ -9,19 +9,32 @@ pub mod slacks;
 pub mod ticks;
 
 use crate::answers::well_formed;
-use crate::block::{encode, Block};
+use crate::block::{encode, Block, MAX_GATES};
 use crate::ffi::Answer;
-use crate::generate::compared_block;
 use crate::generate::editions::Counted;
+use crate::generate::{compared_block, MIDDLE_GATES};
 use crate::random::Random;
 use crate::{boundaries, damage, text, worked};
 use memory::{Element, Memory};
+use std::cmp::Reverse;
 use std::collections::HashSet;
 use std::fmt::{Debug, Display, Formatter};
 
+/// More elements than any block has gates.
+const MOST_LENT: usize = MAX_GATES + 11;
+
+/// How many gates a random block has at most: mostly few, since the reference needs long for many.
+fn most_gates(random: &mut Random) -> usize {
+    if random.chance(1, 8) {
+        MAX_GATES
+    } else {
+        random.pick(&[4, 8, 8, 16, MIDDLE_GATES])
+    }
+}
+
 /// A block file of any edition, every third one damaged.
 fn any_file(random: &mut Random) -> Vec<u8> {
-    let most_gates = random.pick(&[4, 8, 8, 16, 64]);
+    let most_gates = most_gates(random);
     let file = encode(&compared_block(random, most_gates));
     if random.chance(1, 3) {
         damage::damaged(random, &file)
@@ -30,9 +43,12 @@ fn any_file(random: &mut Random) -> Vec<u8> {
     }
 }
 
-/// Files that are compared before random ones: boundaries and worked cases.
+/// Files that are compared before random ones, the last one first: boundaries and worked cases, by falling length.
 fn fixed_files() -> Vec<Vec<u8>> {
-    worked::all().into_iter().map(|w| w.file).chain(boundaries::all().into_iter().map(|b| b.file)).collect()
+    let worked = worked::all().into_iter().map(|w| w.file);
+    let mut files: Vec<Vec<u8>> = worked.chain(boundaries::all().into_iter().map(|b| b.file)).collect();
+    files.sort_by_key(|file| Reverse(file.len()));
+    files
 }
 
 /// A file to compare, and whether it is a random one.
@@ -91,11 +107,13 @@ impl Met {
         self.numbers[number as usize] += 1;
     }
 
-    /// How many random files with wire delays and with measured activities were answered, as kinds that there must be.
-    fn editions(&self) -> [(usize, &'static str); 2] {
+    /// How many random files with wire delays, with measured activities and of many gates were answered, as kinds that there must
+    /// be.
+    fn kinds(&self) -> [(usize, &'static str); 3] {
         [
             (self.answered.delayed, "no random block with a wire delay above 0 was answered"),
             (self.answered.measured, "no random block with measured activities was answered"),
+            (self.answered.large, "no random block of more gates than before K10 was answered"),
         ]
     }
 }
@@ -120,7 +138,7 @@ type Written<T> = fn(&[u8], usize) -> (Answer, Vec<T>);
 /// Lengths of a lent slice with so many elements for each gate: enough, just enough, one too few, none, any.
 fn lengths(file: &[u8], for_each: usize, random: &mut Random) -> [usize; 5] {
     let needed = well_formed(file).map_or(0, |block| for_each * block.gates.len());
-    [for_each * 64, needed, needed.saturating_sub(1), 0, random.below(for_each * 75)]
+    [for_each * MAX_GATES, needed, needed.saturating_sub(1), 0, random.below(for_each * MOST_LENT)]
 }
 
 /// A call on slices of several lengths that have so many elements for each gate.
@@ -150,6 +168,7 @@ pub fn complete(places: &[u32], sized: &Counted) -> Result<(), String> {
         (sized.delayed, "no random block with a wire delay above 0 was sized"),
         (sized.measured, "no random block with measured activities was sized"),
         (sized.tied, "no random block with ties was sized"),
+        (sized.large, "no random block of more gates than before K10 was sized"),
     ])
 }
 
@@ -165,11 +184,11 @@ mod tests {
 
     #[test]
     fn without_a_random_file_of_each_kind_it_fails() {
-        let complete = |places: &[u32], [delayed, measured, tied]: [usize; 3]| {
-            complete(places, &Counted { delayed, measured, tied }).is_ok()
+        let complete = |places: &[u32], [delayed, measured, tied, large]: [usize; 4]| {
+            complete(places, &Counted { delayed, measured, tied, large }).is_ok()
         };
-        assert!(complete(&[1], [1, 1, 1]) && !complete(&[], [1, 1, 1]));
-        assert!([[0, 1, 1], [1, 0, 1], [1, 1, 0]].iter().all(|&sized| !complete(&[1], sized)));
+        assert!(complete(&[1], [1; 4]) && !complete(&[], [1; 4]));
+        assert!([[0, 1, 1, 1], [1, 0, 1, 1], [1, 1, 0, 1], [1, 1, 1, 0]].iter().all(|&sized| !complete(&[1], sized)));
     }
 
     /// The first files are not random; a difference comes with its file.

@@ -1,4 +1,6 @@
-//! What differs between the editions of the block file (document 01, "The block file"; document 02, K2 and K3).
+//! What differs between the editions of the block file (document 01, "The block file"; document 02, K2, K3 and K10).
+
+use crate::block::{MAX_DROP, MAX_GATES};
 
 pub const MAX_EDITION: u8 = 3;
 
@@ -38,6 +40,11 @@ pub fn max_activity(edition: u8) -> u32 {
     } else {
         32_768
     }
+}
+
+/// The greatest gain of a pair of the curve: of a gate with a wire in from every other gate.
+pub fn max_gain(edition: u8) -> u64 {
+    (MAX_GATES as u64 - 1) * u64::from(max_activity(edition)) * u64::from(MAX_DROP)
 }
 
 /// The activity of a net by the number that the file gives for its switching: a measured activity as it is, a probability p

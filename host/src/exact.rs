@@ -13,14 +13,16 @@
 use crate::apart::Apart;
 use crate::block::Block;
 use crate::search::{Best, Curve};
-use crate::timing::{input_activity, saving, start};
+use crate::timing::{input_activity, order, saving, start};
+use std::cmp::Reverse;
+use std::collections::BinaryHeap;
 
 const UNBOUNDED: i64 = i64::MAX / 4;
 
 /// The order in which tied lists are compared: at one gate after another, the smaller increase at the first difference comes
 /// first.
 #[derive(Clone, Copy)]
-pub enum Order {
+enum Order {
     /// From gate n - 1 down (document 02, K8).
     FarEnd,
     /// From gate 0 on: document 01's order, before K8, kept to find blocks on which the two orders differ.
@@ -38,6 +40,7 @@ impl Order {
 }
 
 /// An arc with what can still flow; its opposite is the arc of the other parity.
+#[derive(Clone, Copy)]
 struct Arc {
     to: usize,
     room: i64,
@@ -49,6 +52,9 @@ struct Flow<'a> {
     block: &'a Block,
     arcs: Vec<Arc>,
     out: Vec<Vec<usize>>,
+    /// For each point a time that no way with room reaches it later than, from the first input on: an arc with room is at most as
+    /// long as the times at its ends lie apart.
+    latest: Vec<i64>,
     total: i64,
 }
 
@@ -62,7 +68,9 @@ fn gains(block: &Block, gate: usize) -> Vec<(i64, i64)> {
 impl<'a> Flow<'a> {
     /// The network without flow: first an arc for each wire, then those of the gates.
     fn empty(block: &'a Block) -> Flow<'a> {
-        let mut flow = Flow { block, arcs: Vec::new(), out: vec![Vec::new(); 2 * block.gates.len()], total: 0 };
+        let points = 2 * block.gates.len();
+        let (out, latest) = (vec![Vec::new(); points], vec![0; points]);
+        let mut flow = Flow { block, arcs: Vec::new(), out, latest, total: 0 };
         for wire in &block.wires {
             flow.add(2 * wire.from + 1, 2 * wire.to, UNBOUNDED, i64::from(wire.delay));
         }
@@ -76,7 +84,20 @@ impl<'a> Flow<'a> {
                 flow.add(2 * g, 2 * g + 1, gain - next, length);
             }
         }
+        flow.measure();
         flow
+    }
+
+    /// Finds the latest times without flow: those of the longest ways.
+    fn measure(&mut self) {
+        for g in order(self.block) {
+            for point in [2 * g, 2 * g + 1] {
+                for &i in self.out[point].iter().filter(|&&i| self.arcs[i].room > 0) {
+                    let Arc { to, length, .. } = self.arcs[i];
+                    self.latest[to] = self.latest[to].max(self.latest[point] + length);
+                }
+            }
+        }
     }
 
     fn add(&mut self, from: usize, to: usize, room: i64, length: i64) {
@@ -86,35 +107,46 @@ impl<'a> Flow<'a> {
         self.arcs.push(Arc { to: from, room: 0, length: -length });
     }
 
-    /// The longest way, in what can still flow, from the first input to the last output: its length and its arcs.
-    fn longest_way(&self) -> (i64, Vec<usize>) {
-        let points = self.out.len();
-        let mut length = vec![i64::MIN; points];
-        let mut by = vec![usize::MAX; points];
-        let mut waits = vec![false; points];
-        let mut queue = std::collections::VecDeque::from([0]);
-        length[0] = 0;
-        while let Some(a) = queue.pop_front() {
-            waits[a] = false;
+    /// The longest way, in what can still flow, from the first input to the last output: its length and its arcs. An arc loses as
+    /// much as the latest times at its ends lie farther apart than it is long. The longest way loses least, so it is found by
+    /// Dijkstra's method; the latest times then fall by what is lost.
+    fn longest_way(&mut self) -> (i64, Vec<usize>) {
+        let last = self.out.len() - 1;
+        let mut lost = vec![UNBOUNDED; self.out.len()];
+        let mut by = vec![usize::MAX; self.out.len()];
+        let mut waiting = BinaryHeap::from([Reverse((0, 0))]);
+        lost[0] = 0;
+        while let Some(Reverse((least, a))) = waiting.pop() {
+            if a == last {
+                break;
+            }
+            if least > lost[a] {
+                continue;
+            }
             for &i in &self.out[a] {
-                let arc = &self.arcs[i];
-                if arc.room > 0 && length[a] + arc.length > length[arc.to] {
-                    length[arc.to] = length[a] + arc.length;
-                    by[arc.to] = i;
-                    if !waits[arc.to] {
-                        waits[arc.to] = true;
-                        queue.push_back(arc.to);
-                    }
+                let Arc { to, room, length } = self.arcs[i];
+                let loses = least + self.latest[to] - self.latest[a] - length;
+                if room > 0 && loses < lost[to] {
+                    lost[to] = loses;
+                    by[to] = i;
+                    waiting.push(Reverse((loses, to)));
                 }
             }
         }
+        let most = lost[last];
+        self.latest.iter_mut().zip(lost).for_each(|(latest, lost)| *latest -= lost.min(most));
+        (self.latest[last], self.way_back(&by))
+    }
+
+    /// The arcs of the way to the last output, each point of which was reached by an arc.
+    fn way_back(&self, by: &[usize]) -> Vec<usize> {
         let mut way = Vec::new();
-        let mut at = points - 1;
+        let mut at = by.len() - 1;
         while at != 0 {
             way.push(by[at]);
             at = self.arcs[by[at] ^ 1].to;
         }
-        (length[points - 1], way)
+        way
     }
 
     /// Fills ways longer than `time` until there is none; notes each way's length and amount.
@@ -182,37 +214,60 @@ fn agreeing(flow: &Flow, time: i64) -> Apart {
     if flow.total > 0 {
         apart.at_most(2 * n - 1, 0, -time);
     }
-    apart.close();
     apart
 }
 
-/// Of the lists within `time` the one that saves most and, of those, comes first; `None` if there is no list.
-pub fn best_within(block: &Block, time: i64, order: Order) -> Option<Best> {
+/// Of the lists of a block between which these times leave a choice the one that comes first.
+fn first_list(block: &Block, mut apart: Apart, order: Order) -> Vec<u32> {
+    let mut increases = vec![0; block.gates.len()];
+    for g in order.gates(block.gates.len()) {
+        let least = apart.settle(2 * g, 2 * g + 1);
+        increases[g] = u32::try_from(least - i64::from(block.gates[g].delay)).expect("an increase");
+    }
+    increases
+}
+
+/// Of the lists within `time` the one that saves most and, of those, comes first, in each of some orders; `None` if there is no
+/// list.
+fn best_in_each<const N: usize>(block: &Block, time: i64, orders: [Order; N]) -> Option<[Best; N]> {
     if time < start(block) as i64 {
         return None;
     }
     let mut flow = Flow::empty(block);
     flow.fill(time);
-    let mut apart = agreeing(&flow, time);
-    let mut increases = vec![0; block.gates.len()];
-    for g in order.gates(block.gates.len()) {
-        let least = apart.least(2 * g, 2 * g + 1);
-        apart.narrow(2 * g, 2 * g + 1, least);
-        increases[g] = u32::try_from(least - i64::from(block.gates[g].delay)).expect("an increase");
-    }
-    let saving = saving(block, &increases);
-    assert_eq!(saving as i64, flow.bound(time), "the list reaches the bound");
-    Some(Best { increases, saving })
+    let (apart, bound) = (agreeing(&flow, time), flow.bound(time));
+    Some(orders.map(|order| {
+        let increases = first_list(block, apart.clone(), order);
+        let saving = saving(block, &increases);
+        assert_eq!(saving as i64, bound, "the list reaches the bound");
+        Best { increases, saving }
+    }))
+}
+
+/// The ticks from the block's own arrival to its deadline.
+fn own_time(block: &Block) -> i64 {
+    i64::from(block.deadline) - i64::from(block.arrival)
+}
+
+/// Of the lists within `time` the best; `None` if there is no list.
+pub fn best_within(block: &Block, time: i64) -> Option<Best> {
+    best_in_each(block, time, [Order::FarEnd]).map(|[best]| best)
 }
 
 /// The best list under the block's own arrival and deadline.
 pub fn best(block: &Block) -> Option<Best> {
-    best_in_order(block, Order::FarEnd)
+    best_within(block, own_time(block))
 }
 
-/// The same in an order of ties.
-pub fn best_in_order(block: &Block, order: Order) -> Option<Best> {
-    best_within(block, i64::from(block.deadline) - i64::from(block.arrival), order)
+/// The same in document 01's order of ties.
+pub fn best_from_gate_0(block: &Block) -> Option<Best> {
+    best_in_each(block, own_time(block), [Order::FromGate0]).map(|[best]| best)
+}
+
+/// Whether the order of ties decides: the two orders have different best lists.
+pub fn is_tied(block: &Block) -> bool {
+    let both = best_in_each(block, own_time(block), [Order::FarEnd, Order::FromGate0]);
+    both.map_or(false, |[far_end, from_gate_0]| far_end != from_gate_0)
 }
 
 /// The curve of a block of which the best savings have one (every series-parallel block).

@@ -41,7 +41,7 @@ extern "C" {
         file_len: usize,
         widths: *mut u32,
         widths_len: usize,
-        gains: *mut u32,
+        gains: *mut u64,
         gains_len: usize,
     ) -> CurveAnswer;
     fn honduvi_judge(file: *const u8, file_len: usize, increases: *const u32, increases_len: usize) -> Answer;
@@ -67,7 +67,7 @@ pub fn slacks(file: &[u8], slacks: &mut [i32]) -> Answer {
 
 /// Its curve, the pairs to two slices.
 #[inline]
-pub fn curve(file: &[u8], widths: &mut [u32], gains: &mut [u32]) -> CurveAnswer {
+pub fn curve(file: &[u8], widths: &mut [u32], gains: &mut [u64]) -> CurveAnswer {
     let (widths_len, gains_len) = (widths.len(), gains.len());
     // SAFETY: as above.
     unsafe { honduvi_curve(file.as_ptr(), file.len(), widths.as_mut_ptr(), widths_len, gains.as_mut_ptr(), gains_len) }

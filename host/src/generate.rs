@@ -14,6 +14,9 @@ use editions::{delay_wires, in_any_edition, set_activities};
 use std::iter::repeat_with;
 use ties::any_tied_block;
 
+/// Gates of a middle-sized block, at most. Blocks that were drawn with this limit, before document 02's K10, stay the same.
+pub const MIDDLE_GATES: usize = 64;
+
 /// What the numbers of a block are like.
 #[derive(Clone, Copy, Debug, PartialEq)]
 pub enum Values {
@@ -121,7 +124,7 @@ fn bridged(random: &mut Random, gates: usize) -> Vec<Wire> {
     shuffled(random, gates, wires)
 }
 
-/// Any network without loop whose ends are right, with at most 256 wires.
+/// Any network without loop whose ends are right, with as many wires as a file can have at most.
 fn general(random: &mut Random, gates: usize) -> Vec<Wire> {
     let mut wires: Vec<(usize, usize)> = Vec::new();
     let extra = random.below(2 * gates);
@@ -266,6 +269,17 @@ fn set_times_up_to(random: &mut Random, block: &mut Block, most: u32) {
 /// A block of so many gates, in edition 1.
 pub fn block(random: &mut Random, kind: Wires, values: Values, gates: usize, most_steps: usize) -> Block {
     let wires = wires(random, kind, gates);
+    block_with_wires(random, gates, wires, values, most_steps)
+}
+
+/// The same with these wires.
+pub fn block_with_wires(
+    random: &mut Random,
+    gates: usize,
+    wires: Vec<Wire>,
+    values: Values,
+    most_steps: usize,
+) -> Block {
     let mut block = bare_block(gates, wires);
     for g in 0..gates {
         block.gates[g] = gate(random, values, most_steps);

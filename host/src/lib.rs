@@ -1,5 +1,5 @@
-//! A second implementation of document 01 and of document 02's K1, K2, K3, K6, K8 and K14, written from their text: it says what
-//! the library under test should answer.
+//! A second implementation of document 01 and of document 02's K1, K2, K3, K6, K8, K10 and K14, written from their text: it says
+//! what the library under test should answer.
 
 pub mod answers;
 pub mod apart;

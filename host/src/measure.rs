@@ -1,9 +1,9 @@
 //! Measuring two calls beside each other: the same block files in the same run, each time the least of several rounds, the rounds
 //! of the two in turn.
 
-use crate::block::encode;
+use crate::block::{encode, MAX_GATES};
 use crate::generate::editions::in_edition_3;
-use crate::generate::{benchmark_block, benchmark_with_delays};
+use crate::generate::{benchmark_block, benchmark_with_delays, MIDDLE_GATES};
 use crate::random::Random;
 use crate::shapes::{wires, Shape};
 use std::mem::ManuallyDrop;
@@ -12,7 +12,9 @@ use std::time::{Duration, Instant};
 const BLOCKS: usize = 40;
 const LEAST_ROUNDS: usize = 9;
 const LEAST_TIME: Duration = Duration::from_millis(200);
-pub const SIZES: [usize; 4] = [8, 16, 32, 64];
+pub const SIZES: [usize; 6] = [8, 16, 32, MIDDLE_GATES, 128, MAX_GATES];
+/// The place among these up to which, and from which on, growth is measured.
+pub const MIDDLE: usize = 3;
 /// Wires take up to as long as gates.
 pub const MOST_WIRE_DELAY: u32 = 50;
 

@@ -1,7 +1,7 @@
 //! The paper's list merging (001, section 2.3) with its way back, from file bytes to increases: what the benchmark
-//! compares with. Plain Rust, written for speed as one would without proof: arrays of fixed size, one growing store for
-//! the lists, gates taken away from a work list. Of equally good lists it returns the first in the order of ties (document 02,
-//! K8).
+//! compares with. Plain Rust, written for speed as one would without proof: long arrays are as long as the block needs, one
+//! growing store for the lists, gates taken away from a work list. Of equally good lists it returns the first in the order
+//! of ties (document 02, K8).
 
 mod lists;
 mod netlist;

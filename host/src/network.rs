@@ -10,12 +10,9 @@ pub fn reaches(block: &Block) -> Vec<Vec<bool>> {
         reaches[wire.from][wire.to] = true;
     }
     for middle in 0..n {
-        for a in 0..n {
-            for b in 0..n {
-                if reaches[a][middle] && reaches[middle][b] {
-                    reaches[a][b] = true;
-                }
-            }
+        let beyond = reaches[middle].clone();
+        for row in reaches.iter_mut().filter(|row| row[middle]) {
+            row.iter_mut().zip(&beyond).for_each(|(reached, &further)| *reached |= further);
         }
     }
     reaches

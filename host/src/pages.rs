@@ -15,7 +15,10 @@ const READ: c_int = 1;
 const READ_AND_WRITE: c_int = 3;
 const PRIVATE_WITHOUT_FILE: c_int = 0x22;
 
-/// Two pages, and a third one behind them that may not be touched.
+/// Pages that can be used: so many bytes hold every block file and every slice that is lent.
+const OPEN: usize = 4 * PAGE;
+
+/// The open pages, and one behind them that may not be touched.
 pub struct Pages {
     start: *mut u8,
 }
@@ -25,27 +28,26 @@ impl Pages {
         // SAFETY: a fresh mapping of this process; its last page is closed.
         unsafe {
             let start: *mut u8 =
-                mmap(std::ptr::null_mut(), 3 * PAGE, READ_AND_WRITE, PRIVATE_WITHOUT_FILE, -1, 0).cast();
+                mmap(std::ptr::null_mut(), OPEN + PAGE, READ_AND_WRITE, PRIVATE_WITHOUT_FILE, -1, 0).cast();
             assert!(start as isize != -1, "no memory");
-            assert_eq!(mprotect(start.add(2 * PAGE).cast(), PAGE, NOTHING), 0);
+            assert_eq!(mprotect(start.add(OPEN).cast(), PAGE, NOTHING), 0);
             Pages { start }
         }
     }
 
     fn protect(&mut self, protection: c_int) {
-        // SAFETY: the first two pages of the mapping.
-        assert_eq!(unsafe { mprotect(self.start.cast(), 2 * PAGE, protection) }, 0);
+        // SAFETY: the open pages of the mapping.
+        assert_eq!(unsafe { mprotect(self.start.cast(), OPEN, protection) }, 0);
     }
 
     /// The elements, moved to the end of the pages, which are open for writing.
     fn moved<T: Element>(&mut self, elements: &[T]) -> &mut [T] {
         let bytes = elements.len() * size_of::<T>();
-        assert!(bytes <= 2 * PAGE);
+        assert!(bytes <= OPEN);
         self.protect(READ_AND_WRITE);
-        // SAFETY: within the first two pages, borrowed as long as the slice lives. Any bytes are elements, and a page's end is a
+        // SAFETY: within the open pages, borrowed as long as the slice lives. Any bytes are elements, and a page's end is a
         // multiple of their size.
-        let moved =
-            unsafe { std::slice::from_raw_parts_mut(self.start.add(2 * PAGE - bytes).cast::<T>(), elements.len()) };
+        let moved = unsafe { std::slice::from_raw_parts_mut(self.start.add(OPEN - bytes).cast::<T>(), elements.len()) };
         moved.copy_from_slice(elements);
         moved
     }

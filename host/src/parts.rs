@@ -5,9 +5,6 @@ use crate::block::Block;
 use crate::random::Random;
 use std::collections::HashSet;
 
-/// The two gates that a wire joins; which parts there are does not depend on delays.
-type Ends = (usize, usize);
-
 /// A part: its two ends, and its wires and gates as sets of bits.
 #[derive(Clone, Copy, PartialEq, Eq, Hash)]
 struct Part {
@@ -60,7 +57,7 @@ pub fn built_up(block: &Block) -> bool {
         }
     }
     let all_wires = (1u64 << wire_count) - 1;
-    let all_gates = u64::MAX >> (64 - n);
+    let all_gates = u64::MAX >> (u64::BITS as usize - n);
     seen.contains(&Part { from: 0, to: n - 1, wires: all_wires, gates: all_gates })
 }
 
@@ -70,26 +67,23 @@ pub fn reduces(block: &Block) -> bool {
     if n == 1 {
         return block.wires.is_empty();
     }
-    let mut wires: HashSet<Ends> = block.wires.iter().map(|w| w.ends()).collect();
-    let mut left: Vec<usize> = (1..n - 1).collect();
-    let taken = |left: &[usize], wires: &HashSet<Ends>| {
-        left.iter().enumerate().find_map(|(i, &g)| Some((i, only_wires(wires, g)?)))
-    };
-    while let Some((i, (wire_in, wire_out))) = taken(&left, &wires) {
-        left.remove(i);
-        wires.remove(&wire_in);
-        wires.remove(&wire_out);
-        wires.insert((wire_in.0, wire_out.1));
+    // for each gate those that a wire leads to it from, and those that a wire leads to from it
+    let (mut before, mut behind) = (vec![HashSet::new(); n], vec![HashSet::new(); n]);
+    for wire in &block.wires {
+        before[wire.to].insert(wire.from);
+        behind[wire.from].insert(wire.to);
     }
-    left.is_empty() && wires.len() == 1 && wires.contains(&(0, n - 1))
-}
-
-/// The wire in and the wire out of a gate that has one of each.
-fn only_wires(wires: &HashSet<Ends>, gate: usize) -> Option<(Ends, Ends)> {
-    let mut into = wires.iter().filter(|w| w.1 == gate);
-    let mut out = wires.iter().filter(|w| w.0 == gate);
-    let (wire_in, wire_out) = (into.next()?, out.next()?);
-    (into.next().is_none() && out.next().is_none()).then_some((*wire_in, *wire_out))
+    let mut left: Vec<usize> = (1..n - 1).collect();
+    while let Some(at) = left.iter().position(|&g| before[g].len() == 1 && behind[g].len() == 1) {
+        let gate = left.remove(at);
+        let only = |gates: &HashSet<usize>| *gates.iter().next().expect("a gate");
+        let (a, b) = (only(&before[gate]), only(&behind[gate]));
+        behind[a].remove(&gate);
+        before[b].remove(&gate);
+        behind[a].insert(b);
+        before[b].insert(a);
+    }
+    left.is_empty() && behind[0] == HashSet::from([n - 1]) && behind[n - 1].is_empty()
 }
 
 /// A network in which a wire may stand several times: how many wires lead from each gate to each other, and the gates left.

@@ -1,12 +1,9 @@
 //! What the printing program writes (document 01, "The printing program").
 
 use crate::answers::{best_increases, well_formed};
-use crate::block::{Refusal, MAX_GATES};
+use crate::block::{Refusal, MAX_BYTES, MAX_GATES};
 use crate::timing::{slacks, spare, start};
 use std::fmt::Write;
-
-/// The bytes of standard input that decide (document 02, K2).
-pub const MAX_BYTES: usize = 8_192;
 
 pub fn printout(input: &[u8]) -> String {
     let file = &input[..input.len().min(MAX_BYTES)];

@@ -58,6 +58,7 @@ pub fn wires(random: &mut Random, shape: Shape, gates: usize) -> Vec<Wire> {
 #[cfg(test)]
 mod tests {
     use super::*;
+    use crate::block::MAX_GATES;
     use crate::generate::benchmark_block;
     use crate::{network, parts};
 
@@ -65,7 +66,7 @@ mod tests {
     fn every_shape_is_series_parallel() {
         let random = &mut Random::from_seed(5);
         for shape in ALL_SHAPES {
-            for gates in [3, 4, 8, 64] {
+            for gates in [3, 4, 8, MAX_GATES] {
                 let wires = wires(random, shape, gates);
                 let block = benchmark_block(random, gates, wires, 1);
                 assert!(network::check(&block).is_ok(), "{shape:?} {gates}");

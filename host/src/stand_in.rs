@@ -56,7 +56,7 @@ pub unsafe extern "C" fn honduvi_curve(
     file_len: usize,
     widths: *mut u32,
     widths_len: usize,
-    gains: *mut u32,
+    gains: *mut u64,
     gains_len: usize,
 ) -> CurveAnswer {
     let (answer, right_widths, right_gains) = calls::curve(lent(file, file_len), widths_len, gains_len);

@@ -67,12 +67,20 @@ pub fn path_delay(block: &Block, path: &[usize]) -> u64 {
     gates + block.wires.iter().filter(on_path).map(|w| u64::from(w.delay)).sum::<u64>()
 }
 
-/// The gates in an order in which every wire leads forward.
+/// The gates in an order in which every wire leads forward: again and again the lowest of those that can come next.
 pub fn order(block: &Block) -> Vec<usize> {
-    let mut order: Vec<usize> = Vec::new();
-    while order.len() < block.gates.len() {
-        let ready = |g: &usize| !order.contains(g) && block.wires.iter().all(|w| w.to != *g || order.contains(&w.from));
-        let next = (0..block.gates.len()).find(ready).expect("a block without loops");
+    let gates = block.gates.len();
+    let (mut waits_for, mut leads_to) = (vec![0; gates], vec![Vec::new(); gates]);
+    for wire in &block.wires {
+        waits_for[wire.to] += 1;
+        leads_to[wire.from].push(wire.to);
+    }
+    let mut left: Vec<usize> = (0..gates).collect();
+    let mut order = Vec::new();
+    while !left.is_empty() {
+        let at = left.iter().position(|&g| waits_for[g] == 0).expect("a block without loops");
+        let next = left.remove(at);
+        leads_to[next].iter().for_each(|&to| waits_for[to] -= 1);
         order.push(next);
     }
     order

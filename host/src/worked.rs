@@ -1,10 +1,12 @@
 //! The blocks that document 01 tries by hand, with the answers that it gives for them; for the bridge and the chain of two,
 //! which document 02's K1 and K8 change, the answers given there. Numbers that are left open (some savings, some delays) are
-//! worked out by hand, and so are the answers of some blocks with wire delays, with measured activities, with ties and in finer
-//! ticks (document 02, K2, K3, K8 and K14), and the fewest ticks for wanted savings (K6); no answer comes from a program.
+//! worked out by hand, and so are the answers of some blocks with wire delays, with measured activities, with ties, in finer
+//! ticks and of many gates (document 02, K2, K3, K8, K14 and K10), and the fewest ticks for wanted savings (K6); no answer comes
+//! from a program.
 
 pub mod edition_3;
 pub mod finer;
+pub mod large;
 pub mod ticks;
 pub mod ties;
 
@@ -239,6 +241,7 @@ pub fn all() -> Vec<Worked> {
     all.extend(ties::all());
     all.extend(finer::all());
     all.extend(ticks::all());
+    all.extend(large::all());
     all
 }
 

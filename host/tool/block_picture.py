@@ -94,13 +94,13 @@ class Column:
         return grouped(getattr(row, self.attribute))
 
 
-def _columns(given):
+def _columns(rows, given):
     """The columns, and the right edge of what stands left of them."""
     increase = [("increase", "increase")] if given else []
     columns, right = [], WIDTH - MARGIN
     for heading, attribute in [(_slack_words(given), "slack"), *increase, ("delay", "delay")]:
         columns.insert(0, Column(heading, attribute, right))
-        right -= 10 + text_width(max(heading, "-65,535", key=len))
+        right -= 10 + text_width(max(heading, "-65,535", *map(columns[0].words, rows), key=len))
     return columns, right - 10
 
 
@@ -180,7 +180,7 @@ def _time_scale(netlist, rows, first, last):
 
 def _chart(netlist, rows, given, legend_end):
     """The chart below the legend."""
-    columns, right = _columns(given)
+    columns, right = _columns(rows, given)
     left = MARGIN + 10 + max(text_width(row.short_label) for row in rows)
     scale = _time_scale(netlist, rows, left + 6, right - 8)
     arrival = _mark("arrival", netlist.arrival, scale, left, right)

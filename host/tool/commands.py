@@ -20,7 +20,7 @@ from naming import CannotImport
 from netlist import BLOCK_TAG, MAX_TIME, decode
 from proposals import Proposal, increase, read_proposal
 from tables import Answer, Table, refused
-from text import counted, shown
+from text import shown
 from words import refusal_in_words
 
 sys.path.append(str(Path(__file__).resolve().parents[1] / "python"))
@@ -37,7 +37,7 @@ file that cannot be read, a description at fault, output that could not be writt
 The calls are proved and built first where they are missing or older than their sources (needs the Rattle kit's command rt, and
 gcc); the environment variable HONDUVI_LIBRARY names a shared library that is used as it is."""
 
-# a JSON of yosys for a block of 64 gates has some 100 KB
+# a JSON of yosys for a block of as many gates as there can be has some 300 KB
 MAX_JSON = 1 << 26
 
 

@@ -21,7 +21,7 @@ from netlist import (
 from text import is_number, shown, value_up_to
 
 MAX_NAME = 64
-# a description of 64 gates and 256 wires takes some 12 KB; comments are free
+# the longest block takes some 34 KB without names; comments are free
 MAX_DESCRIPTION = 1 << 24
 # the editions that a block line can leave unsaid, by the word that it has for the switching of a net
 UNSAID_EDITIONS = {"p": 1, "activity": 3}

@@ -84,7 +84,7 @@ def of_description(name, data):
 
 
 def read(name):
-    """A block file, of which the first 8,192 bytes decide, or a description, turned into one; `-` is standard input."""
+    """A block file, of which the first MAX_BYTES decide, or a description, turned into one; `-` is standard input."""
     with _faults_of(name), _opened(name) as stream:
         data = stream.read(MAX_BYTES)
         is_text = description.is_description(data)

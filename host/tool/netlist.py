@@ -6,16 +6,18 @@ not refuse with 1 to 7.
 
 from dataclasses import dataclass, field
 
-MAX_GATES = 64
-MAX_WIRES = 256
+MAX_GATES = 200
+MAX_WIRES = 600
 MAX_STEPS = 8
+# the pairs of a curve
+MAX_PAIRS = MAX_GATES * MAX_STEPS
 MAX_TIME = 65_535
 MAX_DELAY = 4_095
 MAX_WIDTH = 4_095
 MAX_DROP = 1_000
 MAX_EDITION = 3
 # the program decides by so many bytes of its input; no file that can be read is longer
-MAX_BYTES = 8_192
+MAX_BYTES = 16_384
 
 BLOCK_TAG, GATE_TAG, WIRE_TAG = 1, 2, 3
 HEADER = 3

@@ -4,18 +4,25 @@ says along which path, and where on the time axis a gate stands."""
 from dataclasses import dataclass
 
 
+def wires_out(netlist):
+    """The wires that leave each gate."""
+    wires = [[] for _ in netlist.gates]
+    for wire in netlist.wires:
+        wires[wire.source].append(wire)
+    return wires
+
+
 def gates_in_order(netlist):
     """The gates, each behind all that have a wire to it; gates on a loop or behind one are left out."""
-    waiting = [0] * len(netlist.gates)
+    waiting, out = [0] * len(netlist.gates), wires_out(netlist)
     for wire in netlist.wires:
         waiting[wire.target] += 1
     order = [gate for gate, count in enumerate(waiting) if count == 0]
     for gate in order:
-        for wire in netlist.wires:
-            if wire.source == gate:
-                waiting[wire.target] -= 1
-                if waiting[wire.target] == 0:
-                    order.append(wire.target)
+        for wire in out[gate]:
+            waiting[wire.target] -= 1
+            if waiting[wire.target] == 0:
+                order.append(wire.target)
     return order
 
 
@@ -34,17 +41,16 @@ class Times:
 
 def times(netlist, increases):
     """The times of a netlist without loops whose gates all lie on paths from gate 0 to the last."""
-    order = gates_in_order(netlist)
+    order, out = gates_in_order(netlist), wires_out(netlist)
     delays = [gate.delay + increase for gate, increase in zip(netlist.gates, increases)]
     source = [netlist.arrival + delay for delay in delays]
     for gate in order:
-        for wire in netlist.wires:
-            if wire.source == gate:
-                arrives = source[gate] + wire.delay + delays[wire.target]
-                source[wire.target] = max(source[wire.target], arrives)
+        for wire in out[gate]:
+            arrives = source[gate] + wire.delay + delays[wire.target]
+            source[wire.target] = max(source[wire.target], arrives)
     required = [netlist.deadline] * len(delays)
     for gate in reversed(order):
-        leaves = [required[w.target] - delays[w.target] - w.delay for w in netlist.wires if w.source == gate]
+        leaves = [required[wire.target] - delays[wire.target] - wire.delay for wire in out[gate]]
         required[gate] = min(leaves, default=netlist.deadline)
     return Times(source, required)
 

@@ -9,7 +9,7 @@ from collections import Counter, deque
 from dataclasses import dataclass
 
 from fields import FIELD_FAULTS, spot_at
-from netlist import Netlist, decode, encode
+from netlist import MAX_PAIRS, MAX_WIRES, Netlist, decode, encode
 from text import LINE, SHORT_LABEL, chain, counted, label, with_list
 from timing import gates_in_order, longest_path
 
@@ -17,7 +17,6 @@ from timing import gates_in_order, longest_path
 PATH = 140
 # so many gates inside a connection are told by number
 INSIDE = 5
-CURVE_PAIRS = 512
 
 GENERAL = {
     1: "a due block or gate field is missing, or a header or body passes the end",
@@ -26,10 +25,10 @@ GENERAL = {
     4: "a number is out of its range",
     5: "drops do not fall strictly",
     6: "a wire joins a gate to itself, or stood before, whatever the delays",
-    7: "a byte follows the 256th wire",
+    7: f"a byte follows the {MAX_WIRES}th wire",
     8: "a gate reaches itself",
     9: "gate 0 has a wire in, another gate has none, the last gate has a wire out, or another gate has none",
-    10: "a lent slice is shorter than the gates (for the curve than 512, in bytes than 4 for each gate)",
+    10: f"a lent slice is shorter than the gates (for the curve than {MAX_PAIRS}, in bytes than 4 for each gate)",
     11: "the block is not series-parallel",
     12: "even without increases a path misses the deadline",
     13: "an increase exceeds its gate's widths",
@@ -176,7 +175,7 @@ def too_short(refusal):
     if place == 4 * gates:
         return [f"the lent memory is too short: {place} bytes are needed, 4 for each of {counted(gates, 'gate')}"]
     why = f", one for each of {counted(gates, 'gate')}" if place == gates else ""
-    why = ", as many as a curve can have pairs" if place == CURVE_PAIRS else why
+    why = ", as many as a curve can have pairs" if place == MAX_PAIRS else why
     return [f"the lent memory is too short: {counted(place, 'element')} {'is' if place == 1 else 'are'} needed{why}"]
 
 

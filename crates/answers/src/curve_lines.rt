@@ -35,7 +35,7 @@ pub fn curve_held(
     wire_delays: &[u32],
     order: &[u32],
     widths: &mut [u32],
-    gains: &mut [u32],
+    gains: &mut [u64],
 ) -> CurveAnswer
     requires { ⌜ ((file : List ℕ) × (arrival : ℕ) × (deadline : ℕ) × HeldFile file n m arrival deadline activity (gate-arrays (now delays) (now activities) (now counts) (now «step_widths») (now drops)) (wire-arrays (now sources) (now targets) (now «wire_delays»)) (now order)) ⌝ }
     requires { ⌜ (max-pairs ≤ length (now widths)) × (max-pairs ≤ length (now gains)) ⌝ }

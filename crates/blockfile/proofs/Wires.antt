@@ -11,7 +11,7 @@ use lib.Seq.{getD-set-same}
 use Rattle.lists.specs.Over.{build}
 use Rattle.lists.proofs.Over.{length-build}
 use Rattle.model.specs.declared.Refusal.{Refusal}
-use Rattle.model.specs.Limits.{max-wires}
+use Rattle.model.specs.Limits.{max-wires, max-gates}
 use Rattle.model.specs.Block.{Wire}
 use Rattle.model.specs.Edition.{wire-bytes, delay-in}
 use Rattle.model.specs.File.{wire, says, some, same-ends, found, refused, read-field, read-wires}
@@ -94,7 +94,7 @@ marks-last : (table : List ℕ) (ws : List Wire) (w : Wire) → Marks table (w �
 unfolding some
 marks-last table ws w m =
     record {
-      at-pair = λ (a b d : ℕ) (h : a < 64) (k : b < 64).
+      at-pair = λ (a b d : ℕ) (h : a < max-gates) (k : b < max-gates).
           m .at-pair a b d h k
           ∙ ap not (sym (some-append (same-ends (between a b d)) ws (w ∷ []) ∙ or-last (same-ends (between a b d) w) (some (same-ends (between a b d)) ws)));
     }

@@ -14,7 +14,7 @@ use model::limits::MAX_PAIRS;
 use model::limits::MAX_WIRES;
 
 // Bytes of the input, at most.
-const INPUT_BYTES: usize = 8192;
+const INPUT_BYTES: usize = 32768;
 
 // Prints a word and two numbers on a line of their own.
 fn print_refusal(number: u64, place: usize) {

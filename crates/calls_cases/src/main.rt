@@ -13,7 +13,7 @@ use resizing::judge::judge;
 use resizing::slacks::slacks;
 
 // Bytes of the input, at most.
-const INPUT_BYTES: usize = 8192;
+const INPUT_BYTES: usize = 65536;
 
 fn print_number(n: u64) {
     io::write_all(STDOUT_FILENO, b" ");

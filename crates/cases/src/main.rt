@@ -11,14 +11,17 @@ use model::Refusal;
 use model::SlacksAnswer;
 use model::TicksAnswer;
 use model::limits::MAX_BYTES;
+use model::limits::MAX_GATES;
+use model::limits::MAX_PAIRS;
 use resizing::best::best_increases;
 use resizing::curve::curve;
 use resizing::judge::judge;
 use resizing::slacks::slacks;
 use resizing::ticks::fewest_ticks;
 ghost use mathlib.Core.Path.{_≡_};
-ghost use Prim.Native.Nat.{_+_, _≤_};
+ghost use Prim.Native.Nat.{_+_, _*_, _≤_};
 ghost use lib.ListN.{length};
+ghost use Rattle.model.specs.Limits.{max-gates, max-pairs};
 
 fn end_line() {
     io::write_all(STDOUT_FILENO, b"\n");
@@ -68,6 +71,17 @@ const MARK: u32 = 2863311530;
 
 const SLACK_MARK: i32 = -1431655766;
 
+const GAIN_MARK: u64 = 12297829382473034410;
+
+// Elements of the arrays for slacks and increases: some more than any block has gates.
+const LENT: usize = MAX_GATES + 4;
+
+// Elements of the arrays for widths and gains: some more than any curve has pairs.
+const LENT_PAIRS: usize = MAX_PAIRS + 8;
+
+// Bytes of the wanted savings of a record, at most: eight savings of eight bytes.
+const WANTED_BYTES: usize = 8 * 8;
+
 // Whether every element from a place on holds the mark.
 fn marked_from(xs: &[u32], from: usize) -> bool {
     let mut i = from;
@@ -80,9 +94,21 @@ fn marked_from(xs: &[u32], from: usize) -> bool {
     true
 }
 
+// The same for gains.
+fn gains_marked_from(xs: &[u64], from: usize) -> bool {
+    let mut i = from;
+    while i < xs.len() {
+        if xs[i] != GAIN_MARK {
+            return false;
+        }
+        i += 1;
+    }
+    true
+}
+
 // The same for widths and gains.
-fn pairs_marked_from(widths: &[u32], gains: &[u32], from: usize) -> bool {
-    marked_from(widths, from) && marked_from(gains, from)
+fn pairs_marked_from(widths: &[u32], gains: &[u64], from: usize) -> bool {
+    marked_from(widths, from) && gains_marked_from(gains, from)
 }
 
 // The same for slacks.
@@ -131,7 +157,7 @@ fn print_increases(xs: &[u32], n: usize) {
 }
 
 // The first n pairs, or all that there are.
-fn print_pairs(widths: &[u32], gains: &[u32], n: usize) {
+fn print_pairs(widths: &[u32], gains: &[u64], n: usize) {
     let mut i = 0;
     while i < n {
         if widths.len() <= i {
@@ -141,7 +167,7 @@ fn print_pairs(widths: &[u32], gains: &[u32], n: usize) {
             return;
         }
         print_u32(widths[i]);
-        print_u32(gains[i]);
+        print_number(gains[i]);
         i += 1;
     }
 }
@@ -177,9 +203,9 @@ fn lend_slacks(file: &[u8], lent: usize, out: &mut [i32]) -> usize
 
 // The slacks, with so many elements lent. Answers the number of gates, 0 for a refusal.
 fn run_slacks(file: &[u8], lent: usize) -> usize
-    requires { ⌜ lent ≤ 68 ⌝ }
+    requires { ⌜ lent ≤ max-gates + 4 ⌝ }
 {
-    let mut out = [SLACK_MARK; 68];
+    let mut out = [SLACK_MARK; LENT];
     lend_slacks(file, lent, &mut out)
 }
 
@@ -189,7 +215,7 @@ fn lend_curve(
     lent_widths: usize,
     lent_gains: usize,
     widths: &mut [u32],
-    gains: &mut [u32],
+    gains: &mut [u64],
 )
     requires { ⌜ («lent_widths» ≤ length (now widths)) × («lent_gains» ≤ length (now gains)) ⌝ }
 {
@@ -216,10 +242,10 @@ fn lend_curve(
 
 // The curve, with so many elements lent for widths and for gains.
 fn run_curve(file: &[u8], lent_widths: usize, lent_gains: usize)
-    requires { ⌜ («lent_widths» ≤ 520) × («lent_gains» ≤ 520) ⌝ }
+    requires { ⌜ («lent_widths» ≤ max-pairs + 8) × («lent_gains» ≤ max-pairs + 8) ⌝ }
 {
-    let mut widths = [MARK; 520];
-    let mut gains = [MARK; 520];
+    let mut widths = [MARK; LENT_PAIRS];
+    let mut gains = [GAIN_MARK; LENT_PAIRS];
     lend_curve(file, lent_widths, lent_gains, &mut widths, &mut gains);
 }
 
@@ -268,7 +294,7 @@ fn print_fewest(file: &[u8], wanted: u64) {
 
 // The fewest ticks for each wanted saving, of eight bytes, on one line.
 fn print_ticks(file: &[u8], wanted: &[u8])
-    requires { ⌜ length (now wanted) ≤ 64 ⌝ }
+    requires { ⌜ length (now wanted) ≤ 8 * 8 ⌝ }
 {
     io::write_all(STDOUT_FILENO, b"ticks");
     let mut at = 0;
@@ -355,7 +381,7 @@ fn run_list(
     beyond: u32,
     list: &mut [u32],
 )
-    requires { ⌜ (lent ≤ length (now list)) × (length (now wanted) ≤ 64) ⌝ }
+    requires { ⌜ (lent ≤ length (now list)) × (length (now wanted) ≤ 8 * 8) ⌝ }
 {
     lend_best(file, lent, list);
     print_ticks(file, wanted);
@@ -364,25 +390,25 @@ fn run_list(
 
 // One record: a head of 13 bytes, the wanted savings, and a block file.
 fn run_case(number: u64, head: &[u8], wanted: &[u8], file: &[u8])
-    requires { ⌜ (length (now head) ≡ 13) × (length (now wanted) ≤ 64) ⌝ }
+    requires { ⌜ (length (now head) ≡ 13) × (length (now wanted) ≤ 8 * 8) ⌝ }
 {
     io::write_all(STDOUT_FILENO, b"case");
     print_number(number);
     end_line();
-    let lent = smaller(wide(head[2]) as usize, 68);
-    let lent_widths = smaller(number_at(head, 3) as usize, 520);
-    let lent_gains = smaller(number_at(head, 5) as usize, 520);
+    let lent = smaller(wide(head[2]) as usize, LENT);
+    let lent_widths = smaller(number_at(head, 3) as usize, LENT_PAIRS);
+    let lent_gains = smaller(number_at(head, 5) as usize, LENT_PAIRS);
     let gate = wide(head[7]) as usize;
     let beyond = four_bytes(head, 8);
     let gates = run_slacks(file, lent);
     run_curve(file, lent_widths, lent_gains);
-    let mut list = [MARK; 68];
+    let mut list = [MARK; LENT];
     run_list(file, wanted, lent, gates, gate, beyond, &mut list);
 }
 
 // Reads a record's block file into `file` and runs the record, or answers false where the input ends.
 fn run_file(number: u64, head: &[u8], wanted: &[u8], file: &mut [u8]) -> bool
-    requires { ⌜ (length (now head) ≡ 13) × (length (now wanted) ≤ 64) ⌝ }
+    requires { ⌜ (length (now head) ≡ 13) × (length (now wanted) ≤ 8 * 8) ⌝ }
 {
     let size = smaller(number_at(head, 0) as usize, file.len());
     if io::read_full(0, &mut file[..size]) < size {
@@ -394,7 +420,7 @@ fn run_file(number: u64, head: &[u8], wanted: &[u8], file: &mut [u8]) -> bool
 
 // Reads a record's wanted savings into `wanted`, which has room for eight, and runs the record, or answers false where the input ends.
 fn run_wanted(number: u64, head: &[u8], wanted: &mut [u8]) -> bool
-    requires { ⌜ (length (now head) ≡ 13) × (length (now wanted) ≡ 64) ⌝ }
+    requires { ⌜ (length (now head) ≡ 13) × (length (now wanted) ≡ 8 * 8) ⌝ }
 {
     let size = smaller(wide(head[12]) as usize, 8) * 8;
     if io::read_full(0, &mut wanted[..size]) < size {
@@ -410,7 +436,7 @@ fn run_next(number: u64) -> bool {
     if io::read_full(0, &mut head) < 13 {
         return false;
     }
-    let mut wanted = [0u8; 64];
+    let mut wanted = [0u8; WANTED_BYTES];
     run_wanted(number, &head, &mut wanted)
 }
 

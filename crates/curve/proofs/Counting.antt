@@ -1,19 +1,21 @@
--- A walk of the position is `count-off`: each taking earns what its ticks earn when they are counted off the pairs from the position on.
+-- Takings one after another come to `count-off`: each earns what its ticks earn when they are counted off the pairs from the position on.
 -- Assumes nothing.
 use mathlib.Core.Path.{_≡_, refl, sym, _∙_, ap}
+use mathlib.Core.Logic.{_⊎_, inl, inr}
 use mathlib.Core.List.{List, [], _∷_}
-use Prim.Native.Nat.{ℕ, zero, suc, _+_, _*_, _-_, _≤_, _<_}
+use Prim.Native.Nat.{ℕ, suc, _+_, _*_, _-_, _^_, _≤_, _<_}
 use native.Mathlib.Nat.{add-zero, zero-add, sub-zero}
 use native.Mathlib.Numerals.{add-one}
 use native.Mathlib.Omega.{arith}
 use lib.ListN.{length, drop, drop-of-length-le}
 use lib.Seq.{drop-cons}
+use Rattle.lists.proofs.Over.{length-build}
 use Rattle.model.specs.Curve.{Pair, count-off}
 use Rattle.model.proofs.Curve.{count-off-none, count-off-within, count-off-beyond}
 use Rattle.curve.specs.declared.position.Position.{Position}
 use Rattle.curve.specs.declared.position.Taken.{Taken}
-use Rattle.curve.specs.Position.{no-pair, here, left-at, at-front, taken-at, walked}
-use Rattle.curve.proofs.Taking.{Taking, past, within, beyond, taking, comes-on}
+use Rattle.curve.specs.Position.{pair-at, pairs-in, no-pair, here, left-at, at-front, taken-at}
+use Rattle.curve.proofs.Taking.{Taking, past, within, beyond, is-taking, no-more, fewer}
 
 -- the pairs without the first u ticks of the first
 abbrev pub without : ℕ → List Pair → List Pair
@@ -53,7 +55,7 @@ module _ (ps : List Pair) (p : Position) (inside : p .pair < length ps) where
       ∙ sym (rw (add-one (p .pair), without-none (drop (suc (p .pair)) ps)))
 
 -- what is counted off from a position on is what a taking earns and what is counted off from the next
-pub taking-counts : {ps : List Pair} {p : Position} {k : ℕ} {t : Taken} → Taking ps p k t → count-off (ahead ps p) k ≡ t .gain + count-off (ahead ps (t .next)) (k - t .ticks)
+pub taking-counts : {ps : List Pair} {p : Position} {k : ℕ} {t : Taken} → Taking ps p k t → count-off (ahead ps p) k ≡ t .ticks * t .gain + count-off (ahead ps (t .next)) (k - t .ticks)
 taking-counts {ps} {p} {k} (past h) = rw (sub-zero, zero-add)
 taking-counts {ps} {p} {k} (within h l) =
     let none : k - k ≡ 0 = omega arith in
@@ -63,25 +65,33 @@ taking-counts {ps} {p} {k} (beyond h l) =
     let all : k ≡ left-at ps p + (k - left-at ps p) = omega arith in
     ap (count-off (ahead ps p)) all ∙ beyond-here ps p h (k - left-at ps p)
 
--- no ticks, or no pairs ahead: nothing is counted off
-none-ahead : (ps : List Pair) (p : Position) (k : ℕ) → (0 < k → length ps ≤ p .pair) → count-off (ahead ps p) k ≡ 0
+-- What a loop has come to that counts k ticks off a curve: it stands at `next`, `left` ticks are still wanted, and what it has earned and what is counted off from there on come to all.
+pub record Counted (ps : List Pair) (k : ℕ) (next : Position) (left earned : ℕ) : Type 0 where
+  pub all : earned + count-off (ahead ps next) left ≡ count-off ps k
+
+pub counting-starts : (ps : List Pair) (k : ℕ) → Counted ps k at-front k 0
+counting-starts ps k = record { all = rw (zero-add, without-none ps) }
+
+-- no ticks wanted, or no pairs ahead: nothing more is counted off
+pub counting-ends : (ps : List Pair) (k : ℕ) (next : Position) (left earned : ℕ) → Counted ps k next left earned → (left ≡ 0) ⊎ (length ps ≤ next .pair) → earned ≡ count-off ps k
 unfolding count-off
-none-ahead ps p zero h = count-off-none (ahead ps p)
-none-ahead ps p (suc k) h = rw (ahead-past ps p (h (omega arith)))
+counting-ends ps k next left earned c d = omega (arith, c .all, none d)
+  where
+    none : (left ≡ 0) ⊎ (length ps ≤ next .pair) → count-off (ahead ps next) left ≡ 0
+    none (inl e) = rw (e) (count-off-none (ahead ps next))
+    none (inr h) = rw (ahead-past ps next h)
 
--- a walk to the end earns what is counted off from its position on
-pub walk-counts : (n : ℕ) (ps : List Pair) (p : Position) (k : ℕ) → (0 < k → length ps ≤ p .pair + n) → walked n ps p k .gain ≡ count-off (ahead ps p) k
-unfolding walked
-walk-counts zero ps p k h = sym (none-ahead ps p k (λ (l : 0 < k). rw (← add-zero (p .pair)) (h l)))
-walk-counts (suc n) ps p k h =
-    let t = taken-at ps p k in
-    let later : walked n ps (t .next) (k - t .ticks) .gain ≡ count-off (ahead ps (t .next)) (k - t .ticks) = walk-counts n ps (t .next) (k - t .ticks) (λ (l : 0 < k - t .ticks). comes-on n (taking ps p k) (h (omega arith)) l) in
-    ap (λ (x : ℕ). t .gain + x) later ∙ sym (taking-counts (taking ps p k))
+-- One turn of the loop, on a curve that two slices hold: t is what is taken of the pair at `next`.
+module _ (n : ℕ) (ws gs : List ℕ) (k : ℕ) (next : Position) (left earned : ℕ) (t : Taken) (e : t ≡ taken-at (pairs-in n ws gs) next left) where
+  pub turn-takes : t .ticks ≤ left
+  turn-takes = no-more (is-taking {ps = pairs-in n ws gs} {p = next} e)
 
--- from the front that is all of the curve
-pub front-counts : (n : ℕ) (ps : List Pair) (k : ℕ) → length ps ≤ n → walked n ps at-front k .gain ≡ count-off ps k
-front-counts n ps k h = walk-counts n ps at-front k (λ l. omega arith) ∙ rw (without-none ps)
+  pub turn-shortens : 0 < left → next .pair < n → left - t .ticks + (n - t .next .pair) < left + (n - next .pair)
+  turn-shortens l h = rw (length-build n (pair-at ws gs)) at (fewer (is-taking {ps = pairs-in n ws gs} {p = next} e) l (rw length-build h))
 
--- the walk as the code has it, from a position that is the front
-pub counted-off : (n : ℕ) (ps : List Pair) (p : Position) (k : ℕ) (t : Taken) → length ps ≤ n → p ≡ at-front → t ≡ walked n ps p k → t .gain ≡ count-off ps k
-counted-off n ps p k t h f e = rw (e, f) (front-counts n ps k h)
+  -- what it earns is a part of all
+  pub turn-fits : Counted (pairs-in n ws gs) k next left earned → count-off (pairs-in n ws gs) k < 2 ^ 64 → earned + t .ticks * t .gain < 2 ^ 64
+  turn-fits c f = omega (arith, c .all, taking-counts (is-taking {ps = pairs-in n ws gs} {p = next} e))
+
+  pub turn-counts : Counted (pairs-in n ws gs) k next left earned → Counted (pairs-in n ws gs) k (t .next) (left - t .ticks) (earned + t .ticks * t .gain)
+  turn-counts c = record { all = omega (arith, c .all, taking-counts (is-taking {ps = pairs-in n ws gs} {p = next} e)) }

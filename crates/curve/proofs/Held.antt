@@ -3,8 +3,8 @@
 use mathlib.Core.Path.{_≡_, refl, sym, _∙_, ap}
 use mathlib.Core.Logic.{_⊎_, inl, inr}
 use mathlib.Core.List.{List}
-use Prim.Native.Nat.{ℕ, _+_, _*_, _-_, _≤_, _<_, min}
-use native.Mathlib.Nat.{mul-zero, min-eq-left, min-eq-right, le-of-lt}
+use Prim.Native.Nat.{ℕ, _+_, _-_, _≤_, _<_, min}
+use native.Mathlib.Nat.{min-eq-left, min-eq-right, le-of-lt}
 use native.Mathlib.Omega.{arith}
 use lib.ListN.{length, getD, List·getD-eq-default}
 use Rattle.lists.proofs.Compare.{le-or-lt}
@@ -14,16 +14,6 @@ use Rattle.curve.specs.declared.position.Position.{Position}
 use Rattle.curve.specs.declared.position.Taken.{Taken}
 use Rattle.curve.specs.Position.{pair-at, pairs-in, no-pair, here, left-at, none-at, taken-at}
 use Rattle.curve.proofs.Taking.{Taking, past, within, beyond, taking, taken-past, taken-within, taken-beyond}
-
--- every gain is one of the slice, or 0
-pub gains-at-most : (g n : ℕ) (ws gs : List ℕ) → ((i : ℕ) → getD gs i 0 ≤ g) → (i : ℕ) → getD (pairs-in n ws gs) i no-pair .gain ≤ g
-gains-at-most g n ws gs b i = go (le-or-lt n i)
-  where
-    go : (n ≤ i) ⊎ (i < n) → getD (pairs-in n ws gs) i no-pair .gain ≤ g
-    go (inl h) =
-        let past : length (pairs-in n ws gs) ≤ i = rw length-build h in
-        rw (List·getD-eq-default (pairs-in n ws gs) no-pair past) (omega arith)
-    go (inr h) = rw (getD-build n (pair-at ws gs) i no-pair h) (b i)
 
 module _ (n : ℕ) (ws gs : List ℕ) (p : Position) where
   -- past the last pair nothing is taken
@@ -35,8 +25,8 @@ module _ (n : ℕ) (ws gs : List ℕ) (p : Position) where
 
   earns-nothing : (k : ℕ) {t : Taken} → here (pairs-in n ws gs) p .gain ≡ 0 → Taking (pairs-in n ws gs) p k t → t .gain ≡ 0
   earns-nothing k e (past h) = refl
-  earns-nothing k e (within h l) = rw e (mul-zero k)
-  earns-nothing k e (beyond h l) = rw e (mul-zero (left-at (pairs-in n ws gs) p))
+  earns-nothing k e (within h l) = e
+  earns-nothing k e (beyond h l) = e
 
   takes-nothing : (k : ℕ) {t : Taken} → here (pairs-in n ws gs) p .width ≡ 0 → Taking (pairs-in n ws gs) p k t → t .ticks ≡ 0
   takes-nothing k e (past h) = refl
@@ -59,35 +49,35 @@ module _ (n : ℕ) (ws gs : List ℕ) (p : Position) where
       go (inl l) = rw (past-pairs k l)
       go (inr l) = takes-nothing k (ap (λ (q : Pair). q .width) (here-in l) ∙ List·getD-eq-default ws 0 h) (taking (pairs-in n ws gs) p k)
 
-  -- What the code reads and computes at a position: what is left of its pair, how many ticks are taken of k, what they earn.
-  pub record Computed (k left taken earned : ℕ) : Type 0 where
+  -- What the code reads and computes at a position: what is left of its pair, how many ticks are taken of k, the gain of each.
+  pub record Computed (k left taken gain : ℕ) : Type 0 where
     pub inside : p .pair < n
     pub left-is : left ≡ left-at (pairs-in n ws gs) p
     pub taken-is : taken ≡ min k left
-    pub earned-is : earned ≡ taken * here (pairs-in n ws gs) p .gain
+    pub gain-is : gain ≡ here (pairs-in n ws gs) p .gain
 
-  pub computed : (k w left taken g earned : ℕ) → p .pair < n → w ≡ getD ws (p .pair) 0 → left ≡ w - p .used → taken ≡ min k left → g ≡ getD gs (p .pair) 0 → earned ≡ taken * g → Computed k left taken earned
-  computed k w left taken g earned h ew el et eg ee =
-      record { inside = h; left-is = el ∙ rw (ew, here-in h); taken-is = et; earned-is = ee ∙ rw (eg, here-in h) }
+  pub computed : (k w left taken gain : ℕ) → p .pair < n → w ≡ getD ws (p .pair) 0 → left ≡ w - p .used → taken ≡ min k left → gain ≡ getD gs (p .pair) 0 → Computed k left taken gain
+  computed k w left taken gain h ew el et eg =
+      record { inside = h; left-is = el ∙ rw (ew, here-in h); taken-is = et; gain-is = eg ∙ rw (here-in h) }
 
   -- that is the taking where the ticks stay within the pair ..
-  pub taken-stays : (k left taken earned : ℕ) → Computed k left taken earned → k ≤ left
-      → record { next = record { pair = p .pair; used = p .used + k }; ticks = taken; gain = earned } ≡ taken-at (pairs-in n ws gs) p k
-  taken-stays k left taken earned c l =
+  pub taken-stays : (k left taken gain : ℕ) → Computed k left taken gain → k ≤ left
+      → record { next = record { pair = p .pair; used = p .used + k }; ticks = taken; gain = gain } ≡ taken-at (pairs-in n ws gs) p k
+  taken-stays k left taken gain c l =
       let t : taken ≡ k = c .taken-is ∙ min-eq-left l in
-      rw (c .earned-is, t) (sym (taken-within (pairs-in n ws gs) p k (rw length-build (c .inside)) (rw (c .left-is) at l)))
+      rw (c .gain-is, t) (sym (taken-within (pairs-in n ws gs) p k (rw length-build (c .inside)) (rw (c .left-is) at l)))
 
   -- .. and where they go beyond it
-  pub taken-moves : (k left taken earned : ℕ) → Computed k left taken earned → left < k
-      → record { next = record { pair = p .pair + 1; used = 0 }; ticks = taken; gain = earned } ≡ taken-at (pairs-in n ws gs) p k
-  taken-moves k left taken earned c l =
+  pub taken-moves : (k left taken gain : ℕ) → Computed k left taken gain → left < k
+      → record { next = record { pair = p .pair + 1; used = 0 }; ticks = taken; gain = gain } ≡ taken-at (pairs-in n ws gs) p k
+  taken-moves k left taken gain c l =
       let t : taken ≡ left-at (pairs-in n ws gs) p = c .taken-is ∙ min-eq-right (le-of-lt l) ∙ c .left-is in
-      rw (c .earned-is, t) (sym (taken-beyond (pairs-in n ws gs) p k (rw length-build (c .inside)) (rw (c .left-is) at l)))
+      rw (c .gain-is, t) (sym (taken-beyond (pairs-in n ws gs) p k (rw length-build (c .inside)) (rw (c .left-is) at l)))
 
   -- all that is left of the pair, which is what one tick more takes
-  pub taken-rest : (w left g earned : ℕ) → p .pair < n → w ≡ getD ws (p .pair) 0 → left ≡ w - p .used → g ≡ getD gs (p .pair) 0 → earned ≡ left * g
-      → record { next = record { pair = p .pair + 1; used = 0 }; ticks = left; gain = earned } ≡ taken-at (pairs-in n ws gs) p (left-at (pairs-in n ws gs) p + 1)
-  taken-rest w left g earned h ew el eg ee =
+  pub taken-rest : (w left gain : ℕ) → p .pair < n → w ≡ getD ws (p .pair) 0 → left ≡ w - p .used → gain ≡ getD gs (p .pair) 0
+      → record { next = record { pair = p .pair + 1; used = 0 }; ticks = left; gain = gain } ≡ taken-at (pairs-in n ws gs) p (left-at (pairs-in n ws gs) p + 1)
+  taken-rest w left gain h ew el eg =
       let is : left ≡ left-at (pairs-in n ws gs) p = el ∙ rw (ew, here-in h) in
       let all : left ≡ min (left-at (pairs-in n ws gs) p + 1) left = omega arith in
-      taken-moves _ left left earned (computed _ w left left g earned h ew el all eg ee) (omega arith)
+      taken-moves _ left left gain (computed _ w left left gain h ew el all eg) (omega arith)

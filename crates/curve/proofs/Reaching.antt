@@ -1,25 +1,27 @@
 -- Pair after pair towards a wanted saving: whole pairs are passed as long as they earn less than is still needed, and of the pair that earns enough only as many ticks as it takes.
 -- The idea: what is still needed is what the wanted saving exceeds the saving at start and the ticks so far by (`counts`), and more ticks earn no less.
 -- Assumes nothing.
-use mathlib.Core.Path.{_≡_, ap, sym, _∙_}
+use mathlib.Core.Path.{_≡_, _∙_}
 use mathlib.Core.Logic.{⊎-elim}
 use mathlib.Core.List.{List}
-use Prim.Native.Nat.{ℕ, zero, suc, _+_, _*_, _-_, _/_, _≤_, _<_}
+use Prim.Native.Nat.{ℕ, zero, suc, _+_, _*_, _-_, _/_, _^_, _≤_, _<_}
 use native.Mathlib.Nat.{mul-le-mul-right, add-mul, div-add-mod', mod-lt, zero-mul, zero-add, mul-zero}
 use native.Mathlib.Omega.{arith}
-use lib.ListN.{length, getD}
+use lib.ListN.{length}
 use Rattle.lists.specs.Search.{Lowest}
 use Rattle.lists.proofs.Compare.{le-or-lt}
 use Rattle.lists.proofs.Over.{length-build}
-use Rattle.model.specs.Curve.{Pair, count-off}
-use Rattle.model.proofs.Curve.{count-off-grows}
+use Rattle.model.specs.Curve.{Pair, all-ticks, count-off}
+use Rattle.model.proofs.Curve.{count-off-none, count-off-grows, count-off-whole}
 use Rattle.curve.specs.declared.position.Position.{Position}
 use Rattle.curve.specs.declared.position.Taken.{Taken}
 use Rattle.curve.specs.Position.{pairs-in, here, left-at, at-front, taken-at}
-use Rattle.curve.proofs.Product.{greatest}
 use Rattle.curve.proofs.Taking.{rest-of-pair, taken-beyond}
-use Rattle.curve.proofs.Held.{here-in}
 use Rattle.curve.proofs.Counting.{ahead, without-none, ahead-past, within-here, beyond-here}
+
+-- the greatest 32-bit number
+abbrev pub greatest : ℕ
+greatest = 4294967295
 
 -- the fewest ticks of one gain that earn what is needed
 pub fewest-of : (gain need : ℕ) → 1 ≤ gain → 1 ≤ need → Lowest (λ (k : ℕ). need ≤ k * gain) ((need - 1) / gain + 1)
@@ -61,6 +63,11 @@ module _ {ps : List Pair} {at-start wanted : ℕ} {next : Position} {ticks need 
   nowhere past k = below-wanted k k (omega arith) (rw (ahead-past ps next past) (r .some))
 
   module _ (inside : next .pair < length ps) where
+    -- what is left of a pair earns no more than the whole curve
+    part-of-all : left-at ps next * here ps next .gain ≤ count-off ps (all-ticks ps)
+    part-of-all =
+        omega (arith, r .counts 0, r .counts (left-at ps next), count-off-none (ahead ps next), within-here ps next inside (left-at ps next) (omega arith), count-off-whole ps (ticks + left-at ps next))
+
     -- a pair that earns less than is needed is passed
     passes-on : left-at ps next ≤ greatest → left-at ps next * here ps next .gain < need
         → Reaching ps at-start wanted (record { pair = next .pair + 1; used = 0 }) (ticks + left-at ps next) (need - left-at ps next * here ps next .gain)
@@ -96,7 +103,7 @@ module _ {ps : List Pair} {at-start wanted : ℕ} {next : Position} {ticks need 
             none-below = λ j l h. omega (arith, none-fewer j l);
           }
 
--- One turn of the loop, on a curve that two slices hold: t is all that is left of the pair at `next`, whose gain is g.
+-- One turn of the loop, on a curve that two slices hold: t is all that is left of the pair at `next`.
 module _ (n : ℕ) (ws gs : List ℕ) (at-start wanted : ℕ) (next : Position) (ticks need : ℕ) (r : Reaching (pairs-in n ws gs) at-start wanted next ticks need) (ahead-of-end : next .pair < n)
     (t : Taken) (taken : t ≡ taken-at (pairs-in n ws gs) next (left-at (pairs-in n ws gs) next + 1)) where
   inside : next .pair < length (pairs-in n ws gs)
@@ -108,24 +115,24 @@ module _ (n : ℕ) (ws gs : List ℕ) (at-start wanted : ℕ) (next : Position) 
   pub turn-shortens : n - t .next .pair < n - next .pair
   turn-shortens = rw is-rest (omega arith)
 
-  pub turn-passes : t .ticks ≤ greatest → t .gain < need → Reaching (pairs-in n ws gs) at-start wanted (t .next) (ticks + t .ticks) (need - t .gain)
+  pub turn-fits : count-off (pairs-in n ws gs) (all-ticks (pairs-in n ws gs)) < 2 ^ 64 → t .ticks * t .gain < 2 ^ 64
+  turn-fits fits = rw is-rest (omega (arith, part-of-all r inside))
+
+  pub turn-passes : t .ticks ≤ greatest → t .ticks * t .gain < need → Reaching (pairs-in n ws gs) at-start wanted (t .next) (ticks + t .ticks) (need - t .ticks * t .gain)
   turn-passes small less = rw is-rest (passes-on r inside (rw is-rest at small) (rw is-rest at less))
 
-  module _ (g : ℕ) (gain-is : g ≡ getD gs (next .pair) 0) (enough : need ≤ t .gain) where
-    here-is : g ≡ here (pairs-in n ws gs) next .gain
-    here-is = gain-is ∙ sym (ap (λ (p : Pair). p .gain) (here-in n ws gs next ahead-of-end))
-
+  module _ (enough : need ≤ t .ticks * t .gain) where
     -- a pair that earns something has a gain
-    pub turn-gains : 1 ≤ g
-    turn-gains = go g here-is (rw is-rest at enough)
+    pub turn-gains : 1 ≤ t .gain
+    turn-gains = go (t .gain) enough
       where
-        go : (g : ℕ) → g ≡ here (pairs-in n ws gs) next .gain → need ≤ left-at (pairs-in n ws gs) next * here (pairs-in n ws gs) next .gain → 1 ≤ g
-        go zero e l = absurd (omega (arith, r .some, rw (← e, mul-zero (left-at (pairs-in n ws gs) next)) at l))
-        go (suc i) e l = omega arith
+        go : (g : ℕ) → need ≤ t .ticks * g → 1 ≤ g
+        go zero l = absurd (omega (arith, r .some, rw (mul-zero (t .ticks)) at l))
+        go (suc i) l = omega arith
 
-    module _ {k : ℕ} (fewest : Lowest (λ (j : ℕ). need ≤ j * g) k) where
+    module _ {k : ℕ} (fewest : Lowest (λ (j : ℕ). need ≤ j * t .gain) k) where
       pub turn-reaches : Lowest (λ (j : ℕ). wanted ≤ at-start + count-off (pairs-in n ws gs) j) (ticks + k)
-      turn-reaches = reaches-here r inside (rw is-rest at enough) (rw here-is at fewest)
+      turn-reaches = reaches-here r inside (rw is-rest at enough) (rw is-rest at fewest)
 
       pub turn-few : k ≤ t .ticks
-      turn-few = rw is-rest (some-left r inside (rw is-rest at enough) (rw here-is at fewest))
+      turn-few = rw is-rest (some-left r inside (rw is-rest at enough) (rw is-rest at fewest))

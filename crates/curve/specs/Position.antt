@@ -1,7 +1,7 @@
--- A position on a curve that two slices hold, and what ticks taken there earn (document 01: "Spare ticks are counted off the curve from its front; those beyond its end earn 0").
+-- A position on a curve that two slices hold, and ticks taken there (document 01: "Spare ticks are counted off the curve from its front; those beyond its end earn 0").
 use mathlib.Core.Bool.{cond}
 use mathlib.Core.List.{List}
-use Prim.Native.Nat.{ℕ, zero, suc, _+_, _*_, _-_, min}
+use Prim.Native.Nat.{ℕ, _+_, _-_, min}
 use lib.Dec.{leb, ltb}
 use lib.ListN.{length, getD}
 use Rattle.lists.specs.Over.{build}
@@ -42,18 +42,9 @@ next-at ps p k =
 abbrev pub none-at : Position → Taken
 none-at p = record { next = p; ticks = 0; gain = 0 }
 
--- At most k ticks of the pair that a position stands in, and what they earn; past the end none, and the position stays.
+-- At most k ticks of the pair that a position stands in, and the gain of each of them; past the end none, and the position stays.
 abbrev pub taken-at : List Pair → Position → ℕ → Taken
 taken-at ps p k =
     cond (ltb (p .pair) (length ps))
-    (record { next = next-at ps p k; ticks = min k (left-at ps p); gain = min k (left-at ps p) * here ps p .gain })
+    (record { next = next-at ps p k; ticks = min k (left-at ps p); gain = here ps p .gain })
     (none-at p)
-
--- one taking after another: the second's position, the ticks and gains of both
-abbrev pub then : Taken → Taken → Taken
-then a b = record { next = b .next; ticks = a .ticks + b .ticks; gain = a .gain + b .gain }
-
--- k ticks in at most n takings, one pair after another
-unfoldable pub walked : ℕ → List Pair → Position → ℕ → Taken
-walked zero ps p k = none-at p
-walked (suc n) ps p k = then (taken-at ps p k) (walked n ps (taken-at ps p k .next) (k - taken-at ps p k .ticks))

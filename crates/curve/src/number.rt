@@ -1,10 +1,17 @@
-// Numbers: an element wherever it stands, the smaller of two, a difference, a product.
+// Numbers: an element wherever it stands, the smaller of two, a difference.
 ghost use mathlib.Core.Path.{_≡_};
-ghost use Prim.Native.Nat.{_*_, _-_, min};
+ghost use Prim.Native.Nat.{_-_, min};
 ghost use lib.ListN.{getD};
 
 // The element at place i; 0 past the end.
 pub fn element(xs: &[u32], i: usize) -> u32
+    ensures { λ r. ⌜ r ≡ getD (now (xs .entry)) i 0 ⌝ }
+{
+    if i < xs.len() { xs[i] } else { 0 }
+}
+
+// The same of 64-bit elements.
+pub fn wide_element(xs: &[u64], i: usize) -> u64
     ensures { λ r. ⌜ r ≡ getD (now (xs .entry)) i 0 ⌝ }
 {
     if i < xs.len() { xs[i] } else { 0 }
@@ -22,11 +29,4 @@ pub fn left_of(a: u32, b: u32) -> u32
     ensures { λ r. ⌜ r ≡ a - b ⌝ }
 {
     if b < a { a - b } else { 0 }
-}
-
-// The product of two numbers, which always fits.
-pub fn product(a: u32, b: u32) -> u64
-    ensures { λ r. ⌜ r ≡ a * b ⌝ }
-{
-    (a as u64) * (b as u64)
 }

@@ -1,11 +1,11 @@
-// A position on a curve, by value: each taking of ticks hands back the next position and the gain taken.
+// A position on a curve, by value: each taking of ticks hands back the next position, the ticks taken and the gain of each.
 ghost use mathlib.Core.Path.{_≡_};
 ghost use Prim.Native.Nat.{_+_};
-ghost use Rattle.curve.specs.Position.{pairs-in, at-front, left-at, taken-at, walked};
+ghost use Rattle.curve.specs.Position.{pairs-in, at-front, left-at, taken-at};
 use crate::number::element;
 use crate::number::left_of;
-use crate::number::product;
 use crate::number::smaller;
+use crate::number::wide_element;
 
 // A place on a curve: a pair, and how many of its ticks are used.
 pub struct Position {
@@ -13,7 +13,7 @@ pub struct Position {
     pub used: u32,
 }
 
-// What a taking hands back: the next position, how many ticks were taken, and what they earn.
+// What a taking hands back: the next position, how many ticks were taken, and the gain of each of them. Document 01's "gain taken" is the product of the last two, which need not fit 64 bits in slices that hold no curve.
 pub struct Taken {
     pub next: Position,
     pub ticks: u32,
@@ -29,7 +29,7 @@ impl Position {
     }
 
     // At most `ticks` ticks of the pair that the position stands in; none past the end.
-    pub fn take(self, widths: &[u32], gains: &[u32], pairs: usize, ticks: u32) -> Taken
+    pub fn take(self, widths: &[u32], gains: &[u64], pairs: usize, ticks: u32) -> Taken
         ensures { λ r. ⌜ r ≡ taken-at (pairs-in pairs (now (widths .entry)) (now (gains .entry))) self ticks ⌝ }
     {
         let pair = self.pair;
@@ -44,7 +44,7 @@ impl Position {
         let next = pair + 1;
         let left = left_of(element(widths, pair), used);
         let taken = smaller(ticks, left);
-        let gain = product(taken, element(gains, pair));
+        let gain = wide_element(gains, pair);
         if ticks <= left {
             return Taken {
                 next: Position {
@@ -66,7 +66,7 @@ impl Position {
     }
 
     // All that is left of the pair that the position stands in, and on to the next pair: what one tick more than is left takes. None past the end.
-    pub fn rest(self, widths: &[u32], gains: &[u32], pairs: usize) -> Taken
+    pub fn rest(self, widths: &[u32], gains: &[u64], pairs: usize) -> Taken
         ensures { λ r. ⌜ r ≡ taken-at (pairs-in pairs (now (widths .entry)) (now (gains .entry))) self (left-at (pairs-in pairs (now (widths .entry)) (now (gains .entry))) self + 1) ⌝ }
     {
         let pair = self.pair;
@@ -79,34 +79,13 @@ impl Position {
             };
         }
         let left = left_of(element(widths, pair), used);
-        let gain = product(left, element(gains, pair));
         Taken {
             next: Position {
                 pair: pair + 1,
                 used: 0,
             },
             ticks: left,
-            gain,
-        }
-    }
-
-    // `ticks` ticks pair after pair, or all up to the end of the curve.
-    pub fn advance(self, widths: &[u32], gains: &[u32], pairs: usize, ticks: u32) -> Taken
-        ensures { λ r. ⌜ r ≡ walked pairs (pairs-in pairs (now (widths .entry)) (now (gains .entry))) self ticks ⌝ }
-    {
-        let mut next = self;
-        let mut left = ticks;
-        let mut gain: u64 = 0;
-        while 0 < left && next.pair < pairs {
-            let taken = next.take(widths, gains, pairs, left);
-            next = taken.next;
-            left -= taken.ticks;
-            gain += taken.gain;
-        }
-        Taken {
-            next,
-            ticks: ticks - left,
-            gain,
+            gain: wide_element(gains, pair),
         }
     }
 }

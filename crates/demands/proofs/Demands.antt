@@ -40,7 +40,8 @@ use Rattle.model.proofs.Answer.{lowest-unique, ill-unique, eleven-unique}
 use Rattle.optimum.proofs.Scaling.{finer-ticks}
 use Rattle.parts.proofs.Remainder.{same-gates-left}
 use Rattle.parts.proofs.Remains.{some-end, left-exactly}
-use Rattle.shaping.proofs.Facts.{descending}
+use Rattle.planting.proofs.Wires.{few-wires}
+use Rattle.shaping.proofs.Facts.{descending, no-wire-twice}
 use Rattle.demands.proofs.TableLaws.{ill-formed-number, same-outcomes, passed, decided, roomy, answered-at, eleven-line, after-eleven, behind-eleven-exactly}
 use Rattle.demands.proofs.CallLaws.{both, beside, best-in-front, best-bytes, limits, as-network, some-gate, along, late-or-not, in-time, slacks-lines, curve-lines, best-lines, judge-lines, layout-lines, ticks-lines, best-accepts, layout-accepts, curve-accepts, ticks-accepts}
 use Rattle.demands.proofs.Judging.{accepted-in-time, accepted-saves}
@@ -237,7 +238,7 @@ module _ {file : List ℕ} {B : Block} (well : WellFormed file B) where
   pub ticks-by-curve : {s a : ℕ} {ps : List Pair} → IsCurve B s a ps → (wanted k : ℕ) → Fewest B wanted k ↔ Lowest (λ (j : ℕ). wanted ≤ a + count-off ps j) k
   ticks-by-curve = fewest-by-curve start-is
 
-  -- A list never needs more ticks than all steps have, so an answer is at most 512 × 4,095.
+  -- A list never needs more ticks than all steps have, so an answer is at most `max-ticks`.
   pub ticks-few : {wanted k : ℕ} → Fewest B wanted k → k ≤ max-ticks
   ticks-few = fewest-small (limits well) (well .network) (along well)
 
@@ -247,6 +248,10 @@ module _ {file : List ℕ} {B : Block} (well : WellFormed file B) where
   -- DOCUMENT 02, K14. "Finer ticks gain nothing": for the block of every well-formed file and any whole m of 1 or more; the scaled block need not fit a file.
   pub finer-ticks-gain-nothing : SeriesParallel B → (m : ℕ) → 1 ≤ m → FinerTicks m B
   finer-ticks-gain-nothing sp m some = finer-ticks B m some sp (as-network well .below) (descending B (limits well))
+
+  -- DOCUMENT 02, K10. "Files of 65 to 200 gates, refused before, are covered by everything said of smaller ones": no theorem here asks how many gates there are. A series-parallel block of n gates, at least two, has at most 2n − 3 wires.
+  pub wires-few : SeriesParallel B → 2 ≤ gate-count B → length (B .wires) + 3 ≤ 2 * gate-count B
+  wires-few sp = few-wires B sp (no-wire-twice B (limits well) (well .network)) (as-network well .below)
 
 -- DOCUMENT 02, K2. "The optimum is claimed for both editions": what is said above holds of every well-formed file; and every netlist within the limits, of any edition, with whatever wire delays and activities the edition has, is said by such a file if its network is sound.
 pub has-a-file : {N : Netlist} → Limited N → SoundNetwork (block-of N) → WellFormed (encode N) (block-of N)

@@ -1,4 +1,4 @@
--- In a block within the limits the wires into a gate come from different gates, none of them the gate itself: so its input activity is at most 63 times the greatest activity, and no gain is above document 01's bound.
+-- In a block within the limits the wires into a gate come from different gates, none of them the gate itself: so its input activity is at most `max-gates` − 1 times the greatest activity, and no gain is above `max-gain`.
 -- The wires are gone through one after another: each one into the gate comes from a source that counted nothing before.
 -- Assumes nothing.
 use mathlib.Core.Path.{_≡_, refl, sym, _∙_}
@@ -113,7 +113,7 @@ module _ (g : ℕ) where
               (λ (k : ℕ) (l : k < n). cond-at-most (eqb k g) max-activity (most-from ws k) max-activity (omega arith) (cond-at-most (leads ws k) max-activity 0 max-activity (omega arith) (omega arith))),
         )
 
--- no gate's input activity is above 63 times the greatest activity
+-- no gate's input activity is above `max-gates` − 1 times the greatest activity
 pub input-most : (B : Block) → BlockLimits B → (g : ℕ) → g < gate-count B → input-activity B g ≤ (max-gates - 1) * max-activity
 unfolding input-activity
 input-most B l g h =
@@ -131,7 +131,7 @@ drop-most (s ∷ ss) k limits =
     cond-at-most (ltb k (s .width)) (s .drop) (drop-of ss (k - s .width)) max-drop (limits 0 s (omega arith) .drop-most)
     (drop-most ss (k - s .width) (λ (j : ℕ) (d : Step) (h : j < length ss). limits (suc j) d (omega arith)))
 
--- no gain is above 63 × 65,535 × 1,000
+-- no gain is above `max-gain`
 pub gain-most : (B : Block) → BlockLimits B → (g k : ℕ) → g < gate-count B → gain B g k ≤ max-gain
 unfolding gain
 gain-most B l g k h = mul-le-mul (drop-most (gate B g .steps) k (l .gate-limits g .step-limits)) (input-most B l g h)

@@ -19,7 +19,7 @@ pub struct LayoutCurve {
 
 // The curve's pairs to the front of `widths` and `gains`, or the first refusal of 1 to 11 that fits.
 #[no_mangle]
-pub extern "C" fn honduvi_curve(file: &[u8], widths: &mut [u32], gains: &mut [u32]) -> LayoutCurve
+pub extern "C" fn honduvi_curve(file: &[u8], widths: &mut [u32], gains: &mut [u64]) -> LayoutCurve
     ensures { λ r. ⌜ AnswersCurve (now (file .entry)) (record { for-widths = now (widths .entry); for-gains = now (gains .entry) }) (record { answer = told (r .number) (r .place) (r .start ∷ r .«at_start» ∷ r .pairs ∷ []); memory = record { for-widths = now (widths .exit); for-gains = now (gains .exit) } }) ⌝ }
     ensures { λ r. ⌜ UnsaidZero (r .number) (r .place) (r .start ∷ r .«at_start» ∷ r .pairs ∷ []) ⌝ }
     ensures { λ r. ⌜ (r .number ≡ 0 → PairBounds (r .pairs) (now (gains .exit))) ⌝ }

@@ -1,5 +1,5 @@
--- How long a file can be: the offset of the field at fault is at most `file-most` (`fault-early`), and so is the length of a file that is read (`decoded-length`), 4,299 bytes. So the program, which reads `max-bytes`, cuts no file that can be read (`reads-whole`).
--- The idea: the fields that were passed have the lengths of their tags, and there are at most 1 + 64 + 256 of them.
+-- How long a file can be: the offset of the field at fault is at most `file-most` (`fault-early`), and so is the length of a file that is read (`decoded-length`). So the program, which reads `max-bytes`, cuts no file that can be read (`reads-whole`).
+-- The idea: the fields that were passed have the lengths of their tags, and there is one block field, and there are at most `max-gates` and `max-wires` of the others.
 -- Assumes nothing.
 use mathlib.Core.Path.{_≡_, refl}
 use mathlib.Core.List.{List, []}

@@ -163,7 +163,7 @@ pub data GivesCurve (B : Block) (lent : Slices) (o : Outcome Slices) : Type 0 wh
 abbrev pub CurveLines : Block → Slices → Outcome Slices → Type 0
 CurveLines B lent = Line lent 11 (NotSeriesParallelAt B) (GivesCurve B lent)
 
--- The curve, to two lent slices of at least 512 elements each. The block's own deadline plays no part.
+-- The curve, to two lent slices: "at least 1,600 pairs, the most there can be, must be lent" (document 02, K10). The block's own deadline plays no part.
 abbrev pub AnswersCurve : List ℕ → Slices → Outcome Slices → Type 0
 AnswersCurve file lent =
     Judged file lent
@@ -171,7 +171,7 @@ AnswersCurve file lent =
     Line lent 10 (Shorter (lent .for-widths) max-pairs)
     (Line lent 10 (Shorter (lent .for-gains) max-pairs) (CurveLines B lent)))
 
--- "There are at most 512 pairs", and "a pair's gain is now at most 63 × 65,535 × 1,000" (document 02, K3): so many pairs, whose gains are in the slice
+-- "1,600 pairs, the most there can be", and "a pair's gain is now at most 199 × 65,535 × 1,000" (document 02, K10): so many pairs, whose gains are in the slice
 abbrev pub PairBounds : ℕ → List ℕ → Type 0
 PairBounds pairs gains = (pairs ≤ max-pairs) × ((i : ℕ) → i < pairs → getD gains i 0 ≤ max-gain)
 

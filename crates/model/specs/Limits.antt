@@ -1,17 +1,17 @@
--- The limits of a block file (document 01, "The block file"; document 02, K2 and K3), each by its name. A file is held to them by `decode` and `Limited` (File) alone; elsewhere they say how much room an array has and how large a number can be.
+-- The limits of a block file (document 01, "The block file"; document 02, K2, K3 and K10), each by its name. A file is held to them by `decode` and `Limited` (File) alone; elsewhere they say how much room an array has and how large a number can be.
 use Prim.Native.Nat.{ℕ, _*_, _-_}
 
 -- editions of the block file are numbered from 1 to this
 abbrev pub max-edition : ℕ
 max-edition = 3
 
--- gates of a block, at most
+-- gates of a block, at most ("the gate limit becomes 200", document 02, K10)
 abbrev pub max-gates : ℕ
-max-gates = 64
+max-gates = 200
 
--- wires of a block, at most
+-- wires of a block, at most ("and the wire limit 600")
 abbrev pub max-wires : ℕ
-max-wires = 256
+max-wires = 600
 
 -- steps of a gate, at most
 abbrev pub max-steps : ℕ
@@ -41,11 +41,11 @@ max-drop = 1000
 abbrev pub max-time : ℕ
 max-time = 65535
 
--- bytes of an input that the printing program reads
+-- bytes of an input that the printing program reads ("the program reads 16,384 bytes")
 abbrev pub max-bytes : ℕ
-max-bytes = 8192
+max-bytes = 16384
 
--- pairs of a curve, at most: each pair ends some gate's step
+-- pairs of a curve, at most ("1,600 pairs, the most there can be"): each pair ends some gate's step
 abbrev pub max-pairs : ℕ
 max-pairs = max-gates * max-steps
 
@@ -57,6 +57,6 @@ max-ticks = max-pairs * max-width
 abbrev pub max-activity : ℕ
 max-activity = 65535
 
--- gain of a pair, at most ("a pair's gain is now at most 63 × 65,535 × 1,000", document 02, K3)
+-- gain of a pair, at most ("a pair's gain is now at most 199 × 65,535 × 1,000")
 abbrev pub max-gain : ℕ
 max-gain = (max-gates - 1) * max-activity * max-drop

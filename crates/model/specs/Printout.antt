@@ -104,6 +104,6 @@ pub data Printout (file text : List ℕ) : Type 0 where
       → text ≡ block-lines B (take (gate-count B) after)
       → Printout file text
 
--- What the program writes: "it reads standard input, of which the first 4,096 bytes decide", and since document 02, K2, the first 8,192.
+-- What the program writes: "it reads standard input, of which the first 4,096 bytes decide", and since document 02, K10, "the program reads 16,384 bytes".
 abbrev pub Prints : List ℕ → List ℕ → Type 0
 Prints input text = Printout (take max-bytes input) text

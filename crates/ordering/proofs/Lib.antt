@@ -6,6 +6,7 @@ pub mod Marks
 pub mod Wires
 pub mod Front
 pub mod Chains
+pub mod Walking
 pub mod Counts
 pub mod Passing
 pub mod Turns

@@ -1,19 +1,23 @@
--- A part whose wires are wires of the block has no more wires than the block, since none of its wires stands in it twice; so its tree has fewer than two nodes a wire (`few-nodes`).
+-- A series-parallel block of n gates, at least two, has at most 2n − 3 wires (`few-wires`), and the tree of its parts at most 4n − 7 nodes (`few-nodes`).
+-- The idea: a part has at most two wires for each gate inside it, and one more where a wire joins its ends (`part-few`). The block has no more wires than the part, since each is in the part and none stands twice (`block-most`).
 -- Assumes nothing.
-use mathlib.Core.Path.{_≡_, refl, sym, ap}
+use mathlib.Core.Path.{_≡_, refl}
 use mathlib.Core.Logic.{_⊎_, inl, inr}
 use mathlib.Core.Bool.{Bool, true, false, cond}
 use mathlib.Core.List.{List, [], _∷_, List·Memᴰ·head, List·Memᴰ·tail}
-use Prim.Native.Nat.{ℕ, _+_, _≤_, _<_}
+use Prim.Native.Nat.{ℕ, _+_, _*_, _≤_, _<_}
 use native.Mathlib.Nat.{eq-zero-or-pos}
 use native.Mathlib.Omega.{arith}
 use lib.Dec.{eqb}
 use borrow.Author.Tests.{eqb-true, eq-eqb}
 use lib.ListN.{length}
-use Rattle.model.specs.Block.{Wire, Block, first, last, Stands, Joined}
-use Rattle.model.specs.Part.{Shape, wire, series, parallel, Inside, HasGate, HasWire, Part, Whole}
+use Rattle.model.specs.Block.{Wire, Block, gate-count, first, last, Joined}
+use Rattle.model.specs.Part.{Shape, wire, series, parallel, HasWire, Part, Whole, SeriesParallel, lone, built}
 use Rattle.parts.specs.Nodes.{Tree, leaf, chain, beside, shape-of}
-use Rattle.optimum.proofs.Parts.{ends, source-gate, none-from-last}
+use Rattle.optimum.specs.Tree.{size}
+use Rattle.optimum.specs.BlockTree.{tree-of, whole-tree, WiresJoinGates, NoneTwice}
+use Rattle.optimum.proofs.BlockTree.{whole-is-tree}
+use Rattle.optimum.proofs.Range.{tree-size}
 use Rattle.planting.specs.Copy.{nodes-of}
 
 -- the wires of a part
@@ -22,33 +26,21 @@ wires-of wire = 1
 wires-of (series P m Q) = wires-of P + wires-of Q
 wires-of (parallel P Q) = wires-of P + wires-of Q
 
--- how many of the part's wires lead from x to y
-standing : Shape → ℕ → ℕ → ℕ → ℕ → ℕ
-standing wire a b x y = cond (eqb x a) (cond (eqb y b) 1 0) 0
-standing (series P m Q) a b x y = standing P a m x y + standing Q m b x y
-standing (parallel P Q) a b x y = standing P a b x y + standing Q a b x y
+-- those that join its ends
+direct : Shape → ℕ
+direct wire = 1
+direct (series P m Q) = 0
+direct (parallel P Q) = direct P + direct Q
 
--- one is there
-standing-has : (P : Shape) (a b x y : ℕ) → 0 < standing P a b x y → HasWire P a b x y
-unfolding standing
-standing-has wire a b x y = go (eqb x a) (eqb y b) refl refl
+direct-joins : (P : Shape) (a b : ℕ) → 0 < direct P → HasWire P a b a b
+unfolding direct
+direct-joins wire a b l = (refl, refl)
+direct-joins (series P m Q) a b l = absurd (omega arith)
+direct-joins (parallel P Q) a b l = go (eq-zero-or-pos (direct P)) (direct-joins P a b) (direct-joins Q a b)
   where
-    go : (s t : Bool) → eqb x a ≡ s → eqb y b ≡ t → 0 < cond s (cond t 1 0) 0 → (x ≡ a) × (y ≡ b)
-    go true true es et l = (eqb-true _ _ es, eqb-true _ _ et)
-    go true false es et l = absurd (omega arith)
-    go false t es et l = absurd (omega arith)
-standing-has (series P m Q) a b x y = λ l. go l (eq-zero-or-pos (standing P a m x y)) (standing-has P a m x y) (standing-has Q m b x y)
-  where
-    go : 0 < standing P a m x y + standing Q m b x y → (standing P a m x y ≡ 0) ⊎ (0 < standing P a m x y) → (0 < standing P a m x y → HasWire P a m x y)
-        → (0 < standing Q m b x y → HasWire Q m b x y) → HasWire P a m x y ⊎ HasWire Q m b x y
-    go l (inl z) f g = inr (g (omega arith))
-    go l (inr p) f g = inl (f p)
-standing-has (parallel P Q) a b x y = λ l. go l (eq-zero-or-pos (standing P a b x y)) (standing-has P a b x y) (standing-has Q a b x y)
-  where
-    go : 0 < standing P a b x y + standing Q a b x y → (standing P a b x y ≡ 0) ⊎ (0 < standing P a b x y) → (0 < standing P a b x y → HasWire P a b x y)
-        → (0 < standing Q a b x y → HasWire Q a b x y) → HasWire P a b x y ⊎ HasWire Q a b x y
-    go l (inl z) f g = inr (g (omega arith))
-    go l (inr p) f g = inl (f p)
+    go : (direct P ≡ 0) ⊎ (0 < direct P) → (0 < direct P → HasWire P a b a b) → (0 < direct Q → HasWire Q a b a b) → HasWire P a b a b ⊎ HasWire Q a b a b
+    go (inl z) on-left on-right = inr (on-right (omega arith))
+    go (inr k) on-left on-right = inl (on-left k)
 
 -- two numbers of which not both are more than 0
 not-both : (m n : ℕ) → m ≤ 1 → n ≤ 1 → (0 < m → 0 < n → ⊥) → m + n ≤ 1
@@ -59,44 +51,59 @@ not-both m n a b c = go (eq-zero-or-pos m) (eq-zero-or-pos n)
     go (inr p) (inl z) = omega arith
     go (inr p) (inr q) = absurd (c p q)
 
--- two parts in series share no wire
-series-apart : (P : Shape) (m : ℕ) (Q : Shape) (a b x y : ℕ) → Part a b (series P m Q) → HasWire P a m x y → HasWire Q m b x y → ⊥
-series-apart P m Q a b x y (p, q, share) u v =
-    let e : x ≡ m = share x (or-inside (source-gate P a m x y u)) (source-gate′ (source-gate Q m b x y v)) in
-    none-from-last P a m y (ends P a m p) (rw e at u)
-  where
-    or-inside : (x ≡ a) ⊎ Inside P x → HasGate P a m x
-    or-inside (inl e) = inl e
-    or-inside (inr i) = inr (inr i)
+-- at most one does, since parts side by side share no wire
+one-direct : (P : Shape) (a b : ℕ) → Part a b P → direct P ≤ 1
+unfolding direct
+one-direct wire a b p = omega arith
+one-direct (series P m Q) a b p = omega arith
+one-direct (parallel P Q) a b p =
+    not-both _ _ (one-direct P a b (p .0)) (one-direct Q a b (p .1)) (λ k l. p .3 a b (direct-joins P a b k) (direct-joins Q a b l))
 
-    source-gate′ : (x ≡ m) ⊎ Inside Q x → HasGate Q m b x
-    source-gate′ (inl e) = inl e
-    source-gate′ (inr i) = inr (inr i)
+part-few : (ws : List Wire) (P : Shape) (a b : ℕ) → Part a b P → wires-of P ≤ 2 * size (tree-of ws P a b) + direct P
+unfolding wires-of direct
+part-few ws wire a b p = omega arith
+part-few ws (series P m Q) a b p =
+    omega (arith, part-few ws P a m (p .0), part-few ws Q m b (p .1), one-direct P a m (p .0), one-direct Q m b (p .1))
+part-few ws (parallel P Q) a b p = omega (arith, part-few ws P a b (p .0), part-few ws Q a b (p .1))
 
-standing-once : (P : Shape) (a b x y : ℕ) → Part a b P → standing P a b x y ≤ 1
+-- the wires of a part that is the whole block
+whole-few : (B : Block) (P : Shape) → Whole B P → WiresJoinGates B → wires-of P + 3 ≤ 2 * gate-count B
+whole-few B P w join =
+    omega (
+      arith,
+      part-few (B .wires) P (first B) (last B) (w .part),
+      one-direct P (first B) (last B) (w .part),
+      tree-size B (whole-tree B P) (whole-is-tree B P w join),
+    )
+
+-- how many of the part's wires lead from x to y
+standing : Shape → ℕ → ℕ → ℕ → ℕ → ℕ
+standing wire a b x y = cond (eqb x a) (cond (eqb y b) 1 0) 0
+standing (series P m Q) a b x y = standing P a m x y + standing Q m b x y
+standing (parallel P Q) a b x y = standing P a b x y + standing Q a b x y
+
+has-standing : (P : Shape) (a b x y : ℕ) → HasWire P a b x y → 1 ≤ standing P a b x y
 unfolding standing
-standing-once wire a b x y p = go (eqb x a) (eqb y b)
-  where
-    go : (s t : Bool) → cond s (cond t 1 0) 0 ≤ 1
-    go true true = omega arith
-    go true false = omega arith
-    go false t = omega arith
-standing-once (series P m Q) a b x y p =
-    not-both _ _ (standing-once P a m x y (p .0)) (standing-once Q m b x y (p .1))
-    (λ u v. series-apart P m Q a b x y p (standing-has P a m x y u) (standing-has Q m b x y v))
-standing-once (parallel P Q) a b x y p =
-    not-both _ _ (standing-once P a b x y (p .0)) (standing-once Q a b x y (p .1))
-    (λ u v. p .3 x y (standing-has P a b x y u) (standing-has Q a b x y v))
+has-standing wire a b x y (e, f) = rw (eq-eqb x a e, eq-eqb y b f) (omega arith)
+has-standing (series P m Q) a b x y (inl h) = omega (arith, has-standing P a m x y h)
+has-standing (series P m Q) a b x y (inr h) = omega (arith, has-standing Q m b x y h)
+has-standing (parallel P Q) a b x y (inl h) = omega (arith, has-standing P a b x y h)
+has-standing (parallel P Q) a b x y (inr h) = omega (arith, has-standing Q a b x y h)
 
--- the same for all wires of the list together
+-- the same for all wires of a list together
 standings : Shape → ℕ → ℕ → List Wire → ℕ
 standings P a b [] = 0
 standings P a b (w ∷ ws) = standing P a b (w .source) (w .target) + standings P a b ws
 
-standings-few : (P : Shape) (a b : ℕ) → Part a b P → (ws : List Wire) → standings P a b ws ≤ length ws
+standings-all : (P : Shape) (a b : ℕ) (ws : List Wire) → ((x y : ℕ) → Joined ws x y → HasWire P a b x y) → length ws ≤ standings P a b ws
 unfolding standings
-standings-few P a b p [] = omega arith
-standings-few P a b p (w ∷ ws) = omega (arith, standing-once P a b (w .source) (w .target) p, standings-few P a b p ws)
+standings-all P a b [] has = omega arith
+standings-all P a b (w ∷ ws) has =
+    omega (
+      arith,
+      has-standing P a b (w .source) (w .target) (has (w .source) (w .target) (w .delay, List·Memᴰ·head refl)),
+      standings-all P a b ws (λ x y j. has x y (j .0, List·Memᴰ·tail (j .1))),
+    )
 
 standings-series : (P : Shape) (m : ℕ) (Q : Shape) (a b : ℕ) (ws : List Wire) → standings (series P m Q) a b ws ≡ standings P a m ws + standings Q m b ws
 unfolding standing standings
@@ -108,21 +115,45 @@ unfolding standing standings
 standings-parallel P Q a b [] = refl
 standings-parallel P Q a b (w ∷ ws) = omega (arith, standings-parallel P Q a b ws)
 
-standings-wire : (a b d : ℕ) (ws : List Wire) → Stands ws a b d → 1 ≤ standings wire a b ws
+-- no wire of the list is the one from a to b
+none-standing : (a b : ℕ) (ws : List Wire) → ¬ (Joined ws a b) → standings wire a b ws ≡ 0
 unfolding standing standings
-standings-wire a b d (w ∷ ws) (List·Memᴰ·head e) =
-    let s : eqb (w .source) a ≡ true = eq-eqb _ _ (sym (ap (λ (u : Wire). u .source) e)) in
-    let t : eqb (w .target) b ≡ true = eq-eqb _ _ (sym (ap (λ (u : Wire). u .target) e)) in
-    rw (s, t) (omega arith)
-standings-wire a b d (w ∷ ws) (List·Memᴰ·tail m) = omega (arith, standings-wire a b d ws m)
+none-standing a b [] none = refl
+none-standing a b (w ∷ ws) none =
+    go (eqb (w .source) a) (eqb (w .target) b) refl refl (none-standing a b ws (λ j. none (j .0, List·Memᴰ·tail (j .1))))
+  where
+    go : (s t : Bool) → eqb (w .source) a ≡ s → eqb (w .target) b ≡ t → standings wire a b ws ≡ 0 → cond s (cond t 1 0) 0 + standings wire a b ws ≡ 0
+    go true true es et rest = absurd (none (rw (← eqb-true (w .source) a es, ← eqb-true (w .target) b et) (w .delay, List·Memᴰ·head refl)))
+    go true false es et rest = omega arith
+    go false t es et rest = omega arith
 
-standings-all : (ws : List Wire) (P : Shape) (a b : ℕ) → ((x y : ℕ) → HasWire P a b x y → Joined ws x y) → wires-of P ≤ standings P a b ws
+-- at most one is, where none stands twice
+one-standing : (a b : ℕ) (ws : List Wire) → NoneTwice ws → standings wire a b ws ≤ 1
+unfolding standing standings
+one-standing a b [] once = omega arith
+one-standing a b (w ∷ ws) once = go (eqb (w .source) a) (eqb (w .target) b) refl refl (one-standing a b ws (once .1))
+  where
+    go : (s t : Bool) → eqb (w .source) a ≡ s → eqb (w .target) b ≡ t → standings wire a b ws ≤ 1 → cond s (cond t 1 0) 0 + standings wire a b ws ≤ 1
+    go true true es et rest = omega (arith, none-standing a b ws (rw (eqb-true (w .source) a es, eqb-true (w .target) b et) at (once .0)))
+    go true false es et rest = omega arith
+    go false t es et rest = omega arith
+
+block-most : (ws : List Wire) → NoneTwice ws → (P : Shape) (a b : ℕ) → standings P a b ws ≤ wires-of P
 unfolding wires-of
-standings-all ws wire a b has = let j = has a b (refl, refl) in standings-wire a b (j .0) ws (j .1)
-standings-all ws (series P m Q) a b has =
-    omega (arith, standings-series P m Q a b ws, standings-all ws P a m (λ x y h. has x y (inl h)), standings-all ws Q m b (λ x y h. has x y (inr h)))
-standings-all ws (parallel P Q) a b has =
-    omega (arith, standings-parallel P Q a b ws, standings-all ws P a b (λ x y h. has x y (inl h)), standings-all ws Q a b (λ x y h. has x y (inr h)))
+block-most ws once wire a b = one-standing a b ws once
+block-most ws once (series P m Q) a b = omega (arith, standings-series P m Q a b ws, block-most ws once P a m, block-most ws once Q m b)
+block-most ws once (parallel P Q) a b = omega (arith, standings-parallel P Q a b ws, block-most ws once P a b, block-most ws once Q a b)
+
+-- A series-parallel block of n gates, at least two, has at most 2n − 3 wires.
+pub few-wires : (B : Block) → SeriesParallel B → NoneTwice (B .wires) → WiresJoinGates B → 2 ≤ gate-count B → length (B .wires) + 3 ≤ 2 * gate-count B
+few-wires B (lone single none) once join two = absurd (omega arith)
+few-wires B (built P w) once join two =
+    omega (
+      arith,
+      standings-all P (first B) (last B) (B .wires) (λ x y. w .wires x y .0),
+      block-most (B .wires) once P (first B) (last B),
+      whole-few B P w join,
+    )
 
 -- a tree has a node less than two a wire
 nodes-by-wires : (t : Tree) → nodes-of t + 1 ≡ wires-of (shape-of t) + wires-of (shape-of t)
@@ -131,12 +162,6 @@ nodes-by-wires (leaf d) = refl
 nodes-by-wires (chain P m Q) = omega (arith, nodes-by-wires P, nodes-by-wires Q)
 nodes-by-wires (beside P Q) = omega (arith, nodes-by-wires P, nodes-by-wires Q)
 
--- The tree of a whole block has a node less than two a wire of the block, at most.
-pub few-nodes : (B : Block) (t : Tree) → Whole B (shape-of t) → nodes-of t + 1 ≤ length (B .wires) + length (B .wires)
-few-nodes B t w =
-    omega (
-      arith,
-      nodes-by-wires t,
-      standings-all (B .wires) (shape-of t) (first B) (last B) (λ x y. w .wires x y .1),
-      standings-few (shape-of t) (first B) (last B) (w .part) (B .wires),
-    )
+-- The tree of the parts of a block of n gates has at most 4n − 7 nodes.
+pub few-nodes : (B : Block) (t : Tree) → Whole B (shape-of t) → WiresJoinGates B → nodes-of t + 7 ≤ 4 * gate-count B
+few-nodes B t w join = omega (arith, nodes-by-wires t, whole-few B (shape-of t) w join)

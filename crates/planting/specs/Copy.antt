@@ -2,9 +2,9 @@
 use mathlib.Core.Path.{_≡_}
 use mathlib.Core.Logic.{_⊎_}
 use mathlib.Core.List.{List}
-use Prim.Native.Nat.{ℕ, _+_, _-_, _^_, _≤_, _<_}
+use Prim.Native.Nat.{ℕ, _+_, _*_, _-_, _^_, _≤_, _<_}
 use lib.ListN.{length, getD, set}
-use Rattle.model.specs.Limits.{max-wires}
+use Rattle.model.specs.Limits.{max-gates, max-wires}
 use Rattle.parts.specs.Nodes.{Tree, leaf, chain, beside, Nodes}
 
 pub record Plot : Type 0 where
@@ -44,13 +44,13 @@ copied (chain P m Q) c A =
 copied (beside P Q) c A =
     with-parent 2 (c + nodes-of P) 0 (c + nodes-of P + nodes-of Q) (copied Q (c + nodes-of P) (copied P c A))
 
--- places of the arrays that a reduction leaves its nodes in: two for each wire that a block has at most
+-- places of the arrays that a reduction leaves its nodes in: a leaf for each wire, and at most two nodes for each gate that goes
 abbrev pub max-reduced : ℕ
-max-reduced = max-wires + max-wires
+max-reduced = max-wires + (max-gates + max-gates)
 
--- nodes of a block's tree, at most: a node less than two a wire, and four for the first and the last gate
+-- nodes of a block's tree, at most: 4n − 7 for its parts (`few-nodes`), and four for the first and the last gate
 abbrev pub max-nodes : ℕ
-max-nodes = max-reduced + 3
+max-nodes = 4 * max-gates
 
 -- node i and the nodes below it stand in the arrays of a reduction, and children have smaller numbers than their parents
 pub record Readable (T : Nodes) (i : ℕ) : Type 0 where

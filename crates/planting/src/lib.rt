@@ -4,6 +4,7 @@ mod node;
 pub mod tree_words;
 
 use copy::copy;
+use model::limits::MAX_GATES;
 use model::limits::MAX_WIRES;
 use node::write_leaf;
 use node::write_parent;
@@ -16,11 +17,11 @@ ghost use Rattle.planting.specs.Copy.{nodes-in, nodes-of, planted-in, Re
 ghost use Rattle.planting.specs.Planted.{Planted, whole, lone};
 ghost use Rattle.planting.specs.TreeWords.{plot-of, nodes-held};
 
-// Nodes of the tree that a reduction leaves, at most: two for each wire.
-pub const MAX_REDUCED: usize = MAX_WIRES + MAX_WIRES;
+// Nodes of the tree that a reduction leaves, at most: a leaf for each wire, and two for each gate that goes.
+pub const MAX_REDUCED: usize = MAX_WIRES + MAX_GATES + MAX_GATES;
 
-// Nodes of a planted tree, at most.
-pub const MAX_NODES: usize = MAX_REDUCED + 3;
+// Nodes of a planted tree, at most: a series-parallel block of n gates has at most 2n - 3 wires, and its tree 4n - 3 nodes.
+pub const MAX_NODES: usize = 4 * MAX_GATES;
 
 // A number for each node of the tree that a reduction leaves.
 pub type ReducedNumbers = [u32; MAX_REDUCED];

@@ -1,4 +1,4 @@
--- The table of joined pairs: empty at first, and one pair more after each wire. Two pairs of gates below 64 have different places.
+-- The table of joined pairs: empty at first, and one pair more after each wire. Two pairs of gates within the limit have different places.
 -- Assumes nothing.
 use mathlib.Core.Path.{_≡_, refl, sym, subst}
 use mathlib.Core.Logic.{_≢_}
@@ -11,6 +11,7 @@ use borrow.Author.Tests.{eq-eqb, eqb-true}
 use lib.Dec.{T, eqb}
 use lib.ListN.{length, getD, set, replicate, length-replicate, getD-replicate}
 use lib.Seq.{getD-set-same, getD-set-other}
+use Rattle.model.specs.Limits.{max-gates}
 use Rattle.lists.proofs.Bool.{cases}
 use Rattle.model.specs.Block.{Wire}
 use Rattle.model.specs.File.{wire, in-range, some, same-ends}
@@ -21,7 +22,7 @@ use Rattle.ranges.specs.Seen.{pairs, pair-place, between, Marks}
 pub marks-none : (table : List ℕ) → ((i : ℕ) → i < pairs → getD table i 0 ≡ 0) → Marks table []
 unfolding some
 marks-none table p =
-    record { at-pair = λ (a b v : ℕ) (h : a < 64) (k : b < 64). eq-eqb (getD table (pair-place a b) 0) 0 (p (pair-place a b) (omega arith)) }
+    record { at-pair = λ (a b v : ℕ) (h : a < max-gates) (k : b < max-gates). eq-eqb (getD table (pair-place a b) 0) 0 (p (pair-place a b) (omega arith)) }
 
 -- a table of zeros, as it is made
 pub no-marks : (pairs ≤ length (replicate {A = ℕ} pairs 0)) × Marks (replicate pairs 0) []
@@ -34,7 +35,7 @@ both false y e =
     absurd (omega arith)
 
 -- the place of one pair is that of no other
-apart : (a b c d : ℕ) → b < 64 → d < 64 → eqb a c && eqb b d ≡ false → pair-place a b ≢ pair-place c d
+apart : (a b c d : ℕ) → b < max-gates → d < max-gates → eqb a c && eqb b d ≡ false → pair-place a b ≢ pair-place c d
 apart a b c d k l n e =
     let x : a ≡ c = omega arith in
     let y : b ≡ d = omega arith in
@@ -43,12 +44,12 @@ apart a b c d k l n e =
     omega arith
 
 -- one wire more
-pub marks-more : (table : List ℕ) (ws : List Wire) (c d u : ℕ) → pairs ≤ length table → c < 64 → d < 64 → Marks table ws
+pub marks-more : (table : List ℕ) (ws : List Wire) (c d u : ℕ) → pairs ≤ length table → c < max-gates → d < max-gates → Marks table ws
     → Marks (set table (pair-place c d) 1) (between c d u ∷ ws)
 unfolding some
 marks-more table ws c d u long g l m = record { at-pair = at }
   where
-    at : (a b v : ℕ) → a < 64 → b < 64 → eqb (getD (set table (pair-place c d) 1) (pair-place a b) 0) 0
+    at : (a b v : ℕ) → a < max-gates → b < max-gates → eqb (getD (set table (pair-place c d) 1) (pair-place a b) 0) 0
         ≡ not (same-ends (between a b v) (between c d u) || some (same-ends (between a b v)) ws)
     at a b v h k =
         cases (eqb a c && eqb b d)

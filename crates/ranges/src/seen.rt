@@ -1,4 +1,4 @@
-// The pairs of gates that wires have joined, as a table of bytes: the byte at 64 times the source plus the target is not 0 once a wire stood there.
+// The pairs of gates that wires have joined, as a table of bytes: the byte at MAX_GATES times the source plus the target is not 0 once a wire stood there.
 // Public for `faults` and `blockfile` alone.
 ghost use mathlib.Core.Path.{_≡_};
 ghost use mathlib.Core.List.{List, _∷_};

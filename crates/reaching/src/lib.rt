@@ -10,7 +10,7 @@ ghost use Rattle.model.specs.Answer.{AnswersTicks, ticks-answer};
 ghost use Rattle.reaching.specs.CurveKnown.{CurveKnown};
 
 // The answer of the fewest ticks by that of the curve, whose pairs stand in front of the two slices: a refusal is passed on.
-pub fn ticks_on_curve(found: CurveAnswer, widths: &[u32], gains: &[u32], wanted: u64) -> TicksAnswer
+pub fn ticks_on_curve(found: CurveAnswer, widths: &[u32], gains: &[u64], wanted: u64) -> TicksAnswer
     requires { ⌜ ((file : List ℕ) × CurveKnown file found (now widths) (now gains)) ⌝ }
     ensures { λ r. ⌜ ((file : List ℕ) → CurveKnown file found (now (widths .entry)) (now (gains .entry)) → AnswersTicks file wanted (record { answer = ticks-answer r; memory = tt })) ⌝ }
 {

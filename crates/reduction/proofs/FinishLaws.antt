@@ -70,7 +70,7 @@ module _ {N : Block} {n k c : ℕ} {A B : Arrays} (net : Network N) (begin : Goi
           rights-long = omega (arith, few, end .ready .room .right-room);
         }
       where
-        few : c ≤ k + k
+        few : c ≤ k + (n + n)
         few = omega (arith, end .ready .budget)
 
         inside : i < k

@@ -1,4 +1,4 @@
--- Tallies that are right choose a gate and its two slots (`gate-chosen`), and let a gate go exactly when it can (`none-chosen`); a gate that goes keeps what holds of the arrays (`went-on`), and so do turns of the queue. Assumes nothing.
+-- Tallies that are right choose a gate and its two slots (`gate-chosen`), and let a gate go exactly when it can (`none-chosen`); when a gate goes, fewer gates send (`went-less`), so that there is room for its nodes, and what holds of the arrays is kept (`went-on`), as it is by turns of the queue. Assumes nothing.
 use mathlib.Core.Path.{_≡_, refl, sym, _∙_, ap, subst, subst₂}
 use mathlib.Core.Logic.{_≢_}
 use mathlib.Core.List.{List}
@@ -9,19 +9,19 @@ use lib.ListN.{length, getD, set, length-set}
 use lib.Seq.{getD-set-same, getD-set-other}
 use Rattle.model.specs.Limits.{max-wires}
 use Rattle.model.specs.Block.{Block}
-use Rattle.parts.specs.Slots.{OneIn, OneOut, Straight, live-count}
+use Rattle.parts.specs.Slots.{OneIn, OneOut, Straight}
 use Rattle.parts.specs.Network.{Network}
 use Rattle.parts.proofs.Gates.{part-ends}
 use Rattle.parts.proofs.Steps.{step-keeps}
 use Rattle.parts.proofs.Start.{loop-free}
 use Rattle.parts.proofs.Verdict.{one-in-below}
 use Rattle.slots.specs.Sought.{Leads}
-use Rattle.tallies.specs.Tallies.{share, OnlyAt}
+use Rattle.tallies.specs.Tallies.{share, end-gates, OnlyAt}
 use Rattle.tallies.specs.Queue.{One, CanGo}
-use Rattle.tallies.proofs.TallyLaws.{tally-one, only-tally}
+use Rattle.tallies.proofs.TallyLaws.{tally-one, only-tally, end-gates-less}
 use Rattle.reduction.specs.Arrays.{Arrays, held, Room, Chosen, joined, taken-up, Went, by-joining, by-taking-up}
-use Rattle.reduction.specs.Going.{Going, Sound, Ready, Tallied, Turned, stays, goes, Ended}
-use Rattle.reduction.proofs.Held.{held-live, held-ends, held-alive, i-off-j, joined-step, joined-formed, taken-up-step, taken-up-formed, held-fewer}
+use Rattle.reduction.specs.Going.{Going, Sound, sending, Ready, Tallied, Turned, stays, goes, Ended}
+use Rattle.reduction.proofs.Held.{held-live, held-ends, held-alive, cleared-dead, cleared-was, i-off-j, joined-step, joined-formed, taken-up-step, taken-up-formed}
 
 chosen-of : {k m i j : ℕ} (A : Arrays) → OnlyAt (A .lives) (A .tos) k m i → OnlyAt (A .lives) (A .froms) k m j → Chosen k A m i j
 chosen-of A x y =
@@ -35,6 +35,13 @@ chosen-of A x y =
       out-from = y .end;
       out-only = y .only;
     }
+
+-- the slots of a chosen gate, each the only one at its end
+pub in-at : {k m i j : ℕ} {A : Arrays} → Chosen k A m i j → OnlyAt (A .lives) (A .tos) k m i
+in-at ch = record { slot = ch .in-slot; live = ch .in-live; end = ch .in-to; only = ch .in-only }
+
+pub out-at : {k m i j : ℕ} {A : Arrays} → Chosen k A m i j → OnlyAt (A .lives) (A .froms) k m j
+out-at ch = record { slot = ch .out-slot; live = ch .out-live; end = ch .out-from; only = ch .out-only }
 
 -- A gate that can go by tallies which are right, with the slots that they name.
 pub gate-chosen : {n k a b m i j : ℕ} {ins outs : List ℕ} {A : Arrays} → Tallied n k A ins outs → m < n → CanGo ins outs a b m
@@ -56,10 +63,10 @@ none-chosen {k = k} {A = A} few t none m i j h na nb c =
       not-first = na;
       not-last = nb;
       one-in =
-          subst One (sym (t .ins-right m h ∙ only-tally (A .lives) (A .tos) (record { slot = c .in-slot; live = c .in-live; end = c .in-to; only = c .in-only })))
+          subst One (sym (t .ins-right m h ∙ only-tally (A .lives) (A .tos) (in-at c)))
           (share-one i k (c .in-slot) few);
       one-out =
-          subst One (sym (t .outs-right m h ∙ only-tally (A .lives) (A .froms) (record { slot = c .out-slot; live = c .out-live; end = c .out-from; only = c .out-only })))
+          subst One (sym (t .outs-right m h ∙ only-tally (A .lives) (A .froms) (out-at c)))
           (share-one j k (c .out-slot) few);
     })
 
@@ -102,33 +109,45 @@ pub went-grows : {k c m i j r : ℕ} {A B : Arrays} → Went k c m i j A B r →
 went-grows (by-joining none e f) = omega arith
 went-grows (by-taking-up l h ld e f) = omega arith
 
--- A gate that goes.
-module _ {N : Block} {n k c : ℕ} {A : Arrays} (net : Network N) (go : Going N n k c A) (rd : Ready n k c A) {m i j : ℕ} (ch : Chosen k A m i j) where
-  straight : Straight (held k A)
-  straight q l = let s = held k A q in part-ends (s .shape) (s .source) (s .target) (go .reducing .reduced .fits q l .part) .differ
+-- a gate that goes is one of the n
+pub gate-below : {n k c m i j : ℕ} {A : Arrays} → Ready n k c A → Chosen k A m i j → m < n
+gate-below {n} {i = i} rd ch = subst (λ z. z < n) (ch .in-to) (rd .to-below i (ch .in-slot))
 
-  pub slots-apart : i ≢ j
-  slots-apart = i-off-j ch straight (go .formed)
-
-  -- the arrays with slot i dead
-  halfway : Arrays
-  halfway = record { lives = set (A .lives) i 0; froms = A .froms; tos = A .tos; tops = A .tops; tree = A .tree }
-
+-- Fewer gates send when a gate goes: its slot j is dead, and no slot has come to life. So there is room for its nodes.
+module _ {n k c : ℕ} {A : Arrays} (rd : Ready n k c A) {m i j : ℕ} (ch : Chosen k A m i j) where
   i-inside : i < length (A .lives)
   i-inside = omega (arith, rd .room .live-room, ch .in-slot)
 
-  fewer-by-two : (B : Arrays) → B .lives ≡ set (set (A .lives) i 0) j 0 → live-count k (held k B) + 2 ≤ live-count k (held k A)
-  unfolding halfway
-  fewer-by-two B e =
-      let x = held-fewer k A halfway i (ch .in-slot) i-inside (ch .in-live) refl in
-      let y = held-fewer k halfway B j (ch .out-slot) (rw length-set (omega (arith, rd .room .live-room, ch .out-slot))) (getD-set-other (A .lives) i j 0 0 (λ f. slots-apart (sym f)) ∙ ch .out-live) e in
-      omega (arith, x, y)
+  j-inside : j < length (A .lives)
+  j-inside = omega (arith, rd .room .live-room, ch .out-slot)
+
+  joined-less : end-gates (set (A .lives) j 0) (A .froms) k n < sending n k A
+  joined-less =
+      end-gates-less (set (A .lives) j 0) (out-at ch) (cleared-dead (A .lives) j j-inside)
+      (λ q l. cleared-was (A .lives) j q j-inside l .1)
+      (gate-below rd ch)
+
+  taken-up-less : end-gates (set (set (A .lives) i 0) j 0) (A .froms) k n < sending n k A
+  taken-up-less =
+      let inside : j < length (set (A .lives) i 0) = rw length-set j-inside in
+      end-gates-less (set (set (A .lives) i 0) j 0) (out-at ch) (cleared-dead (set (A .lives) i 0) j inside)
+      (λ q l. cleared-was (A .lives) i q i-inside (cleared-was (set (A .lives) i 0) j q inside l .1) .1)
+      (gate-below rd ch)
+
+  pub went-less : {B : Arrays} {r : ℕ} → Went k c m i j A B r → sending n k B < sending n k A
+  unfolding joined taken-up
+  went-less (by-joining none e f) = subst (λ B. sending n k B < sending n k A) (sym e) joined-less
+  went-less (by-taking-up l inside ld e f) = subst (λ B. sending n k B < sending n k A) (sym e) taken-up-less
+
+  -- the gate itself sends
+  pub some-send : 0 < sending n k A
+  some-send = omega (arith, joined-less)
 
   -- there is room for two nodes more
-  pub chosen-room : c + 2 ≤ k + k
-  chosen-room = let f = fewer-by-two (record { lives = set (set (A .lives) i 0) j 0; froms = A .froms; tos = A .tos; tops = A .tops; tree = A .tree }) refl in omega (arith, f, rd .budget)
+  pub chosen-room : c + 2 ≤ k + (n + n)
+  chosen-room = omega (arith, some-send, rd .budget)
 
-  room-more : (x : ℕ) → c + x ≤ k + k → Room k (c + x) A
+  room-more : (x : ℕ) → c + x ≤ k + (n + n) → Room k (c + x) A
   room-more x h =
       let r = rd .room in
       record {
@@ -145,6 +164,14 @@ module _ {N : Block} {n k c : ℕ} {A : Arrays} (net : Network N) (go : Going N 
   pub take-room : Room k (c + 2) A
   take-room = room-more 2 chosen-room
 
+-- A gate that goes.
+module _ {N : Block} {n k c : ℕ} {A : Arrays} (net : Network N) (go : Going N n k c A) (rd : Ready n k c A) {m i j : ℕ} (ch : Chosen k A m i j) where
+  straight : Straight (held k A)
+  straight q l = let s = held k A q in part-ends (s .shape) (s .source) (s .target) (go .reducing .reduced .fits q l .part) .differ
+
+  pub slots-apart : i ≢ j
+  slots-apart = i-off-j ch straight (go .formed)
+
   -- What a gate that goes leaves: the same of the arrays.
   pub record Onward (B : Arrays) (r : ℕ) : Type 0 where
     pub going : Going N n k r B
@@ -156,8 +183,8 @@ module _ {N : Block} {n k c : ℕ} {A : Arrays} (net : Network N) (go : Going N 
         going =
             record {
               gates = go .gates;
-              reducing = step-keeps (loop-free net) (joined-step ch straight (go .formed) (room-more 1 (omega (arith, chosen-room))) none) (go .reducing);
-              formed = joined-formed ch straight (go .formed) (room-more 1 (omega (arith, chosen-room)));
+              reducing = step-keeps (loop-free net) (joined-step ch straight (go .formed) (room-more rd ch 1 (omega (arith, chosen-room rd ch))) none) (go .reducing);
+              formed = joined-formed ch straight (go .formed) (room-more rd ch 1 (omega (arith, chosen-room rd ch)));
             };
         ready = unfold joined in
             record {
@@ -168,8 +195,8 @@ module _ {N : Block} {n k c : ℕ} {A : Arrays} (net : Network N) (go : Going N 
             };
       }
     where
-      fall : live-count k (held k (joined c m i j A)) < live-count k (held k A)
-      fall = held-fewer k A (joined c m i j A) j (ch .out-slot) (omega (arith, rd .room .live-room, ch .out-slot)) (ch .out-live) (unfold joined in refl)
+      fall : sending n k (joined c m i j A) < sending n k A
+      fall = went-less rd ch (by-joining none refl refl)
 
   onward-taken-up : (l : ℕ) → l < k → Leads (A .lives) (A .froms) (A .tos) (getD (A .froms) i 0) (getD (A .tos) j 0) l → Onward (taken-up c m i j l A) (c + 2)
   onward-taken-up l inside ld =
@@ -177,8 +204,8 @@ module _ {N : Block} {n k c : ℕ} {A : Arrays} (net : Network N) (go : Going N 
         going =
             record {
               gates = go .gates;
-              reducing = step-keeps (loop-free net) (taken-up-step ch straight (go .formed) take-room inside ld) (go .reducing);
-              formed = taken-up-formed ch straight (go .formed) take-room inside ld;
+              reducing = step-keeps (loop-free net) (taken-up-step ch straight (go .formed) (take-room rd ch) inside ld) (go .reducing);
+              formed = taken-up-formed ch straight (go .formed) (take-room rd ch) inside ld;
             };
         ready = unfold taken-up in
             record {
@@ -189,8 +216,8 @@ module _ {N : Block} {n k c : ℕ} {A : Arrays} (net : Network N) (go : Going N 
             };
       }
     where
-      fall : live-count k (held k (taken-up c m i j l A)) + 2 ≤ live-count k (held k A)
-      fall = fewer-by-two (taken-up c m i j l A) (unfold taken-up in refl)
+      fall : sending n k (taken-up c m i j l A) < sending n k A
+      fall = went-less rd ch (by-taking-up l inside ld refl refl)
 
   pub went-on : {B : Arrays} {r : ℕ} → Went k c m i j A B r → Onward B r
   went-on (by-joining none e f) = subst₂ Onward (sym e) (sym f) (onward-joined none)

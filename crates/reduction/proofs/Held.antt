@@ -12,10 +12,9 @@ use lib.ListN.{length, getD, set, length-set}
 use lib.Seq.{getD-set-same, getD-set-other}
 use Rattle.model.specs.Block.{Wire}
 use Rattle.model.specs.Part.{Shape, series}
-use Rattle.parts.specs.Slots.{slot, empty, Live, Between, Step, alone, onto, live-count, Straight}
+use Rattle.parts.specs.Slots.{slot, empty, Live, Between, Step, alone, onto, Straight}
 use Rattle.parts.specs.Nodes.{Tree, chain, beside, Nodes, node-tree, shape-of, Weighed, tree-of}
 use Rattle.parts.proofs.Nodes.{tree-at, SameNode, grown}
-use Rattle.parts.proofs.Steps.{count-lt}
 use Rattle.parts.proofs.Reduce.{straight-ends}
 use Rattle.slots.specs.Sought.{Leads}
 use Rattle.reduction.specs.Arrays.{Arrays, held-at, held, Formed, Room, Chosen, add-node, add-series, joined, taken-up}
@@ -314,9 +313,3 @@ module _ {ws : List Wire} {k c : ℕ} {A : Arrays} {m i j l : ℕ} (ch : Chosen 
       weighed : (q : ℕ) → q < k → getD (A .lives) q 0 ≡ 1 → Dec (q ≡ l) → Weighed ws (getD (A .froms) q 0) (getD (A .tos) q 0) (tree-of both (getD (set (A .tops) l (c + 1)) q 0))
       weighed q h v (yes e) = subst (λ z. Weighed ws (getD (A .froms) z 0) (getD (A .tos) z 0) (tree-of both (getD (set (A .tops) l (c + 1)) z 0))) (sym e) weighed-l
       weighed q h v (no n) = subst (Weighed ws (getD (A .froms) q 0) (getD (A .tos) q 0)) (sym (ap (tree-of both) (getD-set-other (A .tops) l q (c + 1) 0 n) ∙ parallel-old q h)) (fm .weighed q h v)
-
--- One flag put to 0 leaves fewer slots live.
-pub held-fewer : (k : ℕ) (A B : Arrays) (j : ℕ) → j < k → j < length (A .lives) → getD (A .lives) j 0 ≡ 1 → B .lives ≡ set (A .lives) j 0 → live-count k (held k B) < live-count k (held k A)
-held-fewer k A B j h n l e =
-    count-lt (held k A) (held k B) k j h (held-alive k A j h l) (held-dead k B j (λ v. cleared-dead (A .lives) j n (ap (λ xs. getD xs j 0) (sym e) ∙ v)))
-    (λ q v. let (hq, x) = held-live k B q v in held-alive k A q hq (cleared-was (A .lives) j q n (ap (λ xs. getD xs q 0) (sym e) ∙ x) .1))

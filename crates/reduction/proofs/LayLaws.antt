@@ -14,7 +14,7 @@ use Rattle.parts.specs.Network.{wire-at, Network}
 use Rattle.parts.specs.Nodes.{leaf, shape-of, Weighed, tree-of}
 use Rattle.parts.proofs.Nodes.{tree-wire}
 use Rattle.parts.proofs.Start.{initial-at, initial-beyond, stands-at, start}
-use Rattle.parts.proofs.Reduce.{count-bound}
+use Rattle.tallies.proofs.TallyLaws.{end-gates-few}
 use Rattle.reduction.specs.Arrays.{Arrays, held, Room}
 use Rattle.reduction.specs.Going.{Going, Ready}
 use Rattle.reduction.specs.Wired.{Wired, LaidAt, Laid}
@@ -62,6 +62,17 @@ module _ (tos delays lives targets tops kinds gates : List ℕ) (i : ℕ) (done 
             delay = off gates gates' (getD delays i 0) eg n ∙ d .delay;
           }
 
+-- The wires in the arrays join gates of the block.
+module _ {N : Block} {n k : ℕ} {froms tos delays : List ℕ} (net : Network N) (w : Wired N n k froms tos delays) where
+  wire-stands : (i : ℕ) → i < k → List·Memᴰ (wire-at (N .wires) i) (N .wires)
+  wire-stands i h = stands-at (N .wires) i (subst (λ z. i < z) (sym (w .count)) h)
+
+  wire-below : (i : ℕ) → i < k → (wire-at (N .wires) i .source < gate-count N) × (wire-at (N .wires) i .target < gate-count N)
+  wire-below i h = net .below (wire-at (N .wires) i .source) (wire-at (N .wires) i .target) (wire-at (N .wires) i .delay, wire-stands i h)
+
+  pub source-below : (i : ℕ) → i < k → getD froms i 0 < n
+  source-below i h = subst₂ _<_ (sym (w .source i h)) (w .gates) (wire-below i h .0)
+
 -- The wires laid out, with room for the nodes to come.
 module _ {N : Block} {n k : ℕ} {froms tos delays : List ℕ} (net : Network N) (w : Wired N n k froms tos delays) (A : Arrays) (same : A .froms ≡ froms) (d : Laid k tos delays (A .lives) (A .tos) (A .tops) (A .tree .kinds) (A .tree .gates)) where
   leaf-at : (i : ℕ) → i < k → tree-of (A .tree) (getD (A .tops) i 0) ≡ leaf (wire-at (N .wires) i .delay)
@@ -83,9 +94,6 @@ module _ {N : Block} {n k : ℕ} {froms tos delays : List ℕ} (net : Network N)
       go (yes h) = held-slot k A h (d i h .live) (from-at i h) (to-at i h) (ap shape-of (leaf-at i h)) ∙ sym (initial-at (N .wires) i (subst (λ z. i < z) (sym (w .count)) h))
       go (no o) = held-out k A i (omega arith) ∙ sym (initial-beyond (N .wires) i (omega (arith, w .count)))
 
-  wire-stands : (i : ℕ) → i < k → List·Memᴰ (wire-at (N .wires) i) (N .wires)
-  wire-stands i h = stands-at (N .wires) i (subst (λ z. i < z) (sym (w .count)) h)
-
   pub laid-going : Going N n k k A
   unfolding Weighed
   laid-going =
@@ -96,18 +104,15 @@ module _ {N : Block} {n k : ℕ} {froms tos delays : List ℕ} (net : Network N)
             record {
               tops-below = λ i h. subst (λ z. z < k) (sym (d i h .top)) h;
               children = λ j h. inl (d j h .kind);
-              weighed = λ i h l. subst (Weighed (N .wires) (getD (A .froms) i 0) (getD (A .tos) i 0)) (sym (leaf-at i h)) (subst₂ (λ x y. Stands (N .wires) x y (wire-at (N .wires) i .delay)) (sym (from-at i h)) (sym (to-at i h)) (wire-stands i h));
+              weighed = λ i h l. subst (Weighed (N .wires) (getD (A .froms) i 0) (getD (A .tos) i 0)) (sym (leaf-at i h)) (subst₂ (λ x y. Stands (N .wires) x y (wire-at (N .wires) i .delay)) (sym (from-at i h)) (sym (to-at i h)) (wire-stands net w i h));
             };
       }
 
-  pub laid-ready : Room k (k + k) A → Ready n k k A
+  pub laid-ready : Room k (k + (n + n)) A → Ready n k k A
   laid-ready r =
       record {
         room = r;
-        from-below = λ i h. subst₂ _<_ (sym (from-at i h)) (w .gates) (below i h .0);
-        to-below = λ i h. subst₂ _<_ (sym (to-at i h)) (w .gates) (below i h .1);
-        budget = omega (arith, count-bound k (held k A));
+        from-below = λ i h. subst₂ _<_ (sym (from-at i h)) (w .gates) (wire-below net w i h .0);
+        to-below = λ i h. subst₂ _<_ (sym (to-at i h)) (w .gates) (wire-below net w i h .1);
+        budget = omega (arith, end-gates-few (A .lives) (A .froms) k n);
       }
-    where
-      below : (i : ℕ) → i < k → (wire-at (N .wires) i .source < gate-count N) × (wire-at (N .wires) i .target < gate-count N)
-      below i h = net .below (wire-at (N .wires) i .source) (wire-at (N .wires) i .target) (wire-at (N .wires) i .delay, wire-stands i h)

@@ -2,7 +2,6 @@ pub mod Held
 pub mod TakeLaws
 pub mod GoingLaws
 pub mod SettleLaws
-pub mod TableLaws
 pub mod QueueLaws
 pub mod TurnLaws
 pub mod LayLaws

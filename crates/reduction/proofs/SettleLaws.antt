@@ -16,6 +16,7 @@ use Rattle.tallies.proofs.TallyLaws.{share-dead, tally-few, tally-has, only-tal
 use Rattle.reduction.specs.Arrays.{Arrays, Chosen, joined, taken-up, Went, by-joining, by-taking-up}
 use Rattle.reduction.specs.Going.{Ready, Tallied}
 use Rattle.reduction.proofs.Held.{cleared-dead}
+use Rattle.reduction.proofs.GoingLaws.{in-at, out-at}
 
 -- x where v is g, else nothing
 abbrev when : ℕ → ℕ → ℕ → ℕ
@@ -88,12 +89,6 @@ module _ {k m i j : ℕ} {A : Arrays} (ch : Chosen k A m i j) (apart : i ≢ j) 
   abbrev lives₂ : List ℕ
   lives₂ = set (set (A .lives) i 0) j 0
 
-  in-at : OnlyAt (A .lives) (A .tos) k m i
-  in-at = record { slot = ch .in-slot; live = ch .in-live; end = ch .in-to; only = ch .in-only }
-
-  out-at : OnlyAt (A .lives) (A .froms) k m j
-  out-at = record { slot = ch .out-slot; live = ch .out-live; end = ch .out-from; only = ch .out-only }
-
   pub v-off-m : v ≢ m
   v-off-m e = apart (sym (ch .in-only j (ch .out-slot) (ch .out-live) e))
 
@@ -112,7 +107,7 @@ module _ {k m i j : ℕ} {A : Arrays} (ch : Chosen k A m i j) (apart : i ≢ j) 
 
   joined-ins : Shifts (tally (A .lives) (A .tos) k) (tally lives₁ tos₁ k) m v (share j) (share i)
   joined-ins =
-      shifted lives₁ tos₁ in-at (ch .out-slot) (ch .out-live) refl (λ e. apart (sym e)) (λ x a b. (getD-set-other (A .lives) j x 0 0 b, getD-set-other (A .tos) i x v 0 a))
+      shifted lives₁ tos₁ (in-at ch) (ch .out-slot) (ch .out-live) refl (λ e. apart (sym e)) (λ x a b. (getD-set-other (A .lives) j x 0 0 b, getD-set-other (A .tos) i x v 0 a))
       (λ g.
       let x = share-when lives₁ tos₁ g i v i-lives (getD-set-same (A .tos) i v 0 (omega (arith, ch .in-slot))) in
       let y = j-dead₁ tos₁ g in
@@ -120,7 +115,7 @@ module _ {k m i j : ℕ} {A : Arrays} (ch : Chosen k A m i j) (apart : i ≢ j) 
 
   joined-outs : Shifts (tally (A .lives) (A .froms) k) (tally lives₁ (A .froms) k) m u (share i) (share i)
   joined-outs =
-      shifted lives₁ (A .froms) out-at (ch .in-slot) (ch .in-live) refl apart (λ x a b. (getD-set-other (A .lives) j x 0 0 a, refl))
+      shifted lives₁ (A .froms) (out-at ch) (ch .in-slot) (ch .in-live) refl apart (λ x a b. (getD-set-other (A .lives) j x 0 0 a, refl))
       (λ g.
       let x = share-when lives₁ (A .froms) g i u i-lives refl in
       let y = j-dead₁ (A .froms) g in
@@ -138,12 +133,12 @@ module _ {k m i j : ℕ} {A : Arrays} (ch : Chosen k A m i j) (apart : i ≢ j) 
 
   taken-up-ins : Shifts (tally (A .lives) (A .tos) k) (tally lives₂ (A .tos) k) m v (share j) 0
   taken-up-ins =
-      shifted lives₂ (A .tos) in-at (ch .out-slot) (ch .out-live) refl (λ e. apart (sym e)) (λ x a b. (same₂ x a b, refl))
+      shifted lives₂ (A .tos) (in-at ch) (ch .out-slot) (ch .out-live) refl (λ e. apart (sym e)) (λ x a b. (same₂ x a b, refl))
       (λ g. let (x, y) = dead₂ (A .tos) g in let z = when-nothing v g in omega (arith, x, y, z))
 
   taken-up-outs : Shifts (tally (A .lives) (A .froms) k) (tally lives₂ (A .froms) k) m u (share i) 0
   taken-up-outs =
-      shifted lives₂ (A .froms) out-at (ch .in-slot) (ch .in-live) refl apart (λ x a b. (same₂ x b a, refl))
+      shifted lives₂ (A .froms) (out-at ch) (ch .in-slot) (ch .in-live) refl apart (λ x a b. (same₂ x b a, refl))
       (λ g. let (x, y) = dead₂ (A .froms) g in let z = when-nothing u g in omega (arith, x, y, z))
 
   -- the tallies settled

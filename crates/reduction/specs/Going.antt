@@ -1,15 +1,14 @@
 -- What holds of the arrays while gates go, and what a turn of the queue does.
 use mathlib.Core.Path.{_≡_}
 use mathlib.Core.List.{List}
-use Prim.Native.Nat.{ℕ, _+_, _≤_, _<_}
+use Prim.Native.Nat.{ℕ, _+_, _*_, _≤_, _<_}
 use lib.ListN.{getD}
 use Rattle.model.specs.Block.{Block, gate-count, Joined}
-use Rattle.parts.specs.Slots.{Finished, live-count}
+use Rattle.parts.specs.Slots.{Finished}
 use Rattle.parts.specs.Invariant.{Reducing}
 use Rattle.parts.specs.Network.{Network}
-use Rattle.slots.specs.Table.{Listed}
 use Rattle.tallies.specs.Queue.{tail-after, CanGo}
-use Rattle.tallies.specs.Tallies.{share, TalliedBy, settled, kept-share}
+use Rattle.tallies.specs.Tallies.{share, end-gates, TalliedBy, settled, kept-share}
 use Rattle.reduction.specs.Arrays.{Arrays, held, Formed, Room, Chosen, Went}
 
 -- With n gates, k slots and c nodes, the arrays hold a moment of the reduction of N.
@@ -24,12 +23,16 @@ pub record Sound (n k c : ℕ) (A : Arrays) : Type 0 where
   pub network : Network block
   pub going : Going block n k c A
 
--- The arrays have room for every node that may come, and their gates are below n. Each step adds no more nodes than slots die.
+-- how many of the n gates some live slot leaves
+abbrev pub sending : ℕ → ℕ → Arrays → ℕ
+sending n k A = end-gates (A .lives) (A .froms) k n
+
+-- The arrays have room for every node that may come, and their gates are below n. A gate that goes adds at most two nodes, and then no live slot leaves it.
 pub record Ready (n k c : ℕ) (A : Arrays) : Type 0 where
-  pub room : Room k (k + k) A
+  pub room : Room k (k + (n + n)) A
   pub from-below : (i : ℕ) → i < k → getD (A .froms) i 0 < n
   pub to-below : (i : ℕ) → i < k → getD (A .tos) i 0 < n
-  pub budget : c + live-count k (held k A) ≤ k + k
+  pub budget : c + 2 * sending n k A ≤ k + (n + n)
 
 -- the tallies of the n gates are right
 pub record Tallied (n k : ℕ) (A : Arrays) (ins outs : List ℕ) : Type 0 where
@@ -41,23 +44,21 @@ pub record Queued (n a b : ℕ) (ins outs queue places : List ℕ) (head tail : 
   pub gates : (q : ℕ) → q < tail → getD queue q 0 < n
   pub waits : (g : ℕ) → g < n → CanGo ins outs a b g → (head ≤ getD places g 0) × (getD places g 0 < tail) × (getD queue (getD places g 0) 0 ≡ g)
 
--- Gate m has gone, between u and v; tallies and table have followed.
-pub record Removed (k c m i j u v : ℕ) (A B : Arrays) (ins outs ins′ outs′ table′ : List ℕ) (r : ℕ) : Type 0 where
+-- Gate m has gone, between u and v; the tallies have followed.
+pub record Removed (k c m i j u v : ℕ) (A B : Arrays) (ins outs ins′ outs′ : List ℕ) (r : ℕ) : Type 0 where
   pub went : Went k c m i j A B r
   pub ins-settled : ins′ ≡ settled m v (share j) (kept-share c r i) ins
   pub outs-settled : outs′ ≡ settled m u (share i) (kept-share c r i) outs
-  pub listed : Listed k (B .lives) (B .froms) (B .tos) table′
 
 -- a gate has gone, from the arrays A with c nodes to the arrays B with r nodes; or none
 pub data Turned (k c : ℕ) (A B : Arrays) (r : ℕ) : Type 0 where
   stays : B ≡ A → r ≡ c → Turned k c A B r
   goes : (m i j : ℕ) → Chosen k A m i j → Went k c m i j A B r → Turned k c A B r
 
--- The queue's gate at `head` has had its turn: tallies, table and queue are right again.
-pub record Visited (n k a b c head tail : ℕ) (A B : Arrays) (ins outs table queue places : List ℕ) (r : ℕ) : Type 0 where
+-- The queue's gate at `head` has had its turn: tallies and queue are right again.
+pub record Visited (n k a b c head tail : ℕ) (A B : Arrays) (ins outs queue places : List ℕ) (r : ℕ) : Type 0 where
   pub turned : Turned k c A B r
   pub tallied : Tallied n k B ins outs
-  pub listed : Listed k (B .lives) (B .froms) (B .tos) table
   pub queued : Queued n a b ins outs queue places (head + 1) (tail-after c r tail)
 
 -- The reduction's end, from the arrays A to the arrays B with r nodes: of whatever network A was the beginning, B is a moment at which no gate but a and b can go.

@@ -4,9 +4,9 @@ mod take;
 mod turns;
 
 use lay::lay;
-use model::limits::GATES_SQUARED;
 use model::limits::MAX_GATES;
 use model::limits::MAX_WIRES;
+use ordering::chain::chain_wires;
 use slots::Answer;
 use slots::finish::pick;
 use turns::reduce;
@@ -19,8 +19,8 @@ ghost use Rattle.reduction.specs.Arrays.{arrays, Room};
 ghost use Rattle.reduction.specs.Wired.{Wired, Given};
 ghost use Rattle.reduction.specs.Answered.{Answered};
 
-// Turns in the queue, at most: one for each gate and two for each wire.
-const MAX_TURNS: usize = MAX_GATES + MAX_WIRES + MAX_WIRES;
+// Turns in the queue, at most: one for each gate, and two for each gate that goes.
+const MAX_TURNS: usize = MAX_GATES + MAX_GATES + MAX_GATES;
 
 // Reduces a network of n gates and k wires, given by their ends and delays, to its tree in the arrays kind, left, gate, right. The other arrays are scratch.
 // Public for the crates above only: they have shown that the wires are those of a network.
@@ -41,7 +41,7 @@ pub fn reduce_network(
     n: usize,
 ) -> Answer
     requires { ⌜ Given n k (now from) (now to) (now delay) ⌝ }
-    requires { ⌜ Room k (k + k) (arrays (now live) (now from) (now target) (now top) (now kind) (now left) (now gate) (now right)) ⌝ }
+    requires { ⌜ Room k (k + (n + n)) (arrays (now live) (now from) (now target) (now top) (now kind) (now left) (now gate) (now right)) ⌝ }
     requires { ⌜ k ≤ length (now to) ⌝ }
     requires { ⌜ k ≤ length (now delay) ⌝ }
     requires { ⌜ n ≤ length (now ins) ⌝ }
@@ -53,7 +53,10 @@ pub fn reduce_network(
     if n == 1 {
         return Answer::Lone;
     }
-    let mut table = [0u8; GATES_SQUARED];
+    let mut heads = [0u32; MAX_GATES];
+    let mut links = [0u32; MAX_WIRES];
+    chain_wires(k, from, &mut heads, &mut links);
+    let mut recent = [0u32; MAX_GATES];
     let mut queue = [0u8; MAX_TURNS];
     let mut places = [0u32; MAX_GATES];
     lay(to, delay, live, target, top, kind, gate, k);
@@ -68,7 +71,9 @@ pub fn reduce_network(
         right,
         ins,
         outs,
-        &mut table,
+        &heads,
+        &links,
+        &mut recent,
         &mut queue,
         &mut places,
         k,

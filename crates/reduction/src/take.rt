@@ -1,12 +1,12 @@
 // Taking a gate away: its two slots become one.
+use slots::chain::remember;
+use slots::chain::slot_between;
 use slots::node::add_node;
-use slots::table::enlist;
-use slots::table::slot_between;
 ghost use mathlib.Core.Path.{_≡_};
-ghost use Prim.Native.Nat.{ℕ, _+_, _*_, _^_, _≤_, _<_};
+ghost use Prim.Native.Nat.{_+_, _^_, _≤_, _<_};
 ghost use lib.ListN.{length, getD, set};
 ghost use Rattle.model.specs.Limits.{max-gates, max-wires};
-ghost use Rattle.slots.specs.Table.{Listed};
+ghost use Rattle.ordering.specs.Chain.{Chained};
 ghost use Rattle.reduction.specs.Arrays.{arrays, Room, Chosen, Went};
 
 // Slots i and j become one in i's place, of node c.
@@ -47,7 +47,9 @@ pub(crate) fn take(
     left: &mut [u32],
     gate: &mut [u32],
     right: &mut [u32],
-    table: &mut [u8],
+    heads: &[u32],
+    links: &[u32],
+    recent: &mut [u32],
     k: usize,
     c: usize,
     m: u32,
@@ -57,23 +59,22 @@ pub(crate) fn take(
     requires { ⌜ Room k (c + 2) (arrays (now live) (now from) (now to) (now top) (now kind) (now left) (now gate) (now right)) ⌝ }
     requires { ⌜ Chosen k (arrays (now live) (now from) (now to) (now top) (now kind) (now left) (now gate) (now right)) m i j ⌝ }
     requires { ⌜ (c + 2 ≤ 2 ^ 32) × (k ≤ max-wires) ⌝ }
-    requires { ⌜ Listed k (now live) (now from) (now to) (now table) ⌝ }
-    requires { ⌜ max-gates * max-gates ≤ length (now table) ⌝ }
+    requires { ⌜ Chained (now from) k (now heads) (now links) ⌝ }
+    requires { ⌜ (max-gates ≤ length (now heads)) × (k ≤ length (now links)) × (max-gates ≤ length (now recent)) ⌝ }
     requires { ⌜ getD (now from) i 0 < max-gates ⌝ }
-    requires { ⌜ ((q : ℕ) → q < k → getD (now to) q 0 < max-gates) ⌝ }
     ensures { λ r. ⌜ Went k c m i j (arrays (now (live .entry)) (now (from .entry)) (now (to .entry)) (now (top .entry)) (now (kind .entry)) (now (left .entry)) (now (gate .entry)) (now (right .entry))) (arrays (now (live .exit)) (now (from .entry)) (now (to .exit)) (now (top .exit)) (now (kind .exit)) (now (left .exit)) (now (gate .exit)) (now (right .exit))) r ⌝ }
-    ensures { λ r. ⌜ Listed k (now (live .exit)) (now (from .entry)) (now (to .exit)) (now (table .exit)) ⌝ }
 {
     let a = from[i];
     let b = to[j];
-    let l = slot_between(live, from, to, table, k, a, b);
+    let l = slot_between(live, from, to, heads, links, &*recent, k, a, b);
     add_node(kind, left, gate, right, c, 1, top[i], m, top[j]);
     if l == k {
         join(live, to, top, c as u32, i, j);
-        enlist(table, a, b, i);
+        remember(recent, a, i);
         return c + 1;
     }
     add_node(kind, left, gate, right, c + 1, 2, top[l], 0, c as u32);
     take_up(live, top, (c + 1) as u32, i, j, l);
+    remember(recent, a, l);
     c + 2
 }

@@ -1,7 +1,6 @@
 // Gates go, in the order of a queue, until none can.
 use crate::take::take;
 use model::limits::MAX_WIRES;
-use slots::table::list;
 use tallies::queue::line_up;
 use tallies::queue::new_tail;
 use tallies::queue::put;
@@ -14,11 +13,11 @@ ghost use mathlib.Core.Path.{_≡_};
 ghost use Prim.Native.Nat.{ℕ, _+_, _*_, _≤_, _<_};
 ghost use lib.ListN.{length, getD};
 ghost use Rattle.model.specs.Limits.{max-gates, max-wires};
-ghost use Rattle.slots.specs.Table.{Listed};
+ghost use Rattle.ordering.specs.Chain.{Chained};
 ghost use Rattle.reduction.specs.Arrays.{arrays, Chosen};
-ghost use Rattle.reduction.specs.Going.{Sound, Ready, Tallied, Queued, Removed, Visited, Ended};
+ghost use Rattle.reduction.specs.Going.{sending, Sound, Ready, Tallied, Queued, Removed, Visited, Ended};
 
-// Gate m goes, between the gates u and v, with its slots i and j, and the tallies and the table follow. Answers the number of nodes then.
+// Gate m goes, between the gates u and v, with its slots i and j, and the tallies follow. Answers the number of nodes then.
 fn remove(
     live: &mut [u32],
     from: &[u32],
@@ -30,7 +29,9 @@ fn remove(
     right: &mut [u32],
     ins: &mut [u32],
     outs: &mut [u32],
-    table: &mut [u8],
+    heads: &[u32],
+    links: &[u32],
+    recent: &mut [u32],
     k: usize,
     n: usize,
     c: usize,
@@ -44,11 +45,11 @@ fn remove(
     requires { ⌜ Ready n k c (arrays (now live) (now from) (now to) (now top) (now kind) (now left) (now gate) (now right)) ⌝ }
     requires { ⌜ Chosen k (arrays (now live) (now from) (now to) (now top) (now kind) (now left) (now gate) (now right)) m i j ⌝ }
     requires { ⌜ Tallied n k (arrays (now live) (now from) (now to) (now top) (now kind) (now left) (now gate) (now right)) (now ins) (now outs) ⌝ }
-    requires { ⌜ Listed k (now live) (now from) (now to) (now table) ⌝ }
+    requires { ⌜ Chained (now from) k (now heads) (now links) ⌝ }
     requires { ⌜ (u ≡ getD (now from) i 0) × (v ≡ getD (now to) j 0) ⌝ }
-    requires { ⌜ (n ≤ length (now ins)) × (n ≤ length (now outs)) × (max-gates * max-gates ≤ length (now table)) ⌝ }
+    requires { ⌜ (n ≤ length (now ins)) × (n ≤ length (now outs)) × (max-gates ≤ length (now heads)) × (k ≤ length (now links)) × (max-gates ≤ length (now recent)) ⌝ }
     requires { ⌜ (n ≤ max-gates) × (k ≤ max-wires) ⌝ }
-    ensures { λ r. ⌜ Removed k c m i j u v (arrays (now (live .entry)) (now (from .entry)) (now (to .entry)) (now (top .entry)) (now (kind .entry)) (now (left .entry)) (now (gate .entry)) (now (right .entry))) (arrays (now (live .exit)) (now (from .entry)) (now (to .exit)) (now (top .exit)) (now (kind .exit)) (now (left .exit)) (now (gate .exit)) (now (right .exit))) (now (ins .entry)) (now (outs .entry)) (now (ins .exit)) (now (outs .exit)) (now (table .exit)) r ⌝ }
+    ensures { λ r. ⌜ Removed k c m i j u v (arrays (now (live .entry)) (now (from .entry)) (now (to .entry)) (now (top .entry)) (now (kind .entry)) (now (left .entry)) (now (gate .entry)) (now (right .entry))) (arrays (now (live .exit)) (now (from .entry)) (now (to .exit)) (now (top .exit)) (now (kind .exit)) (now (left .exit)) (now (gate .exit)) (now (right .exit))) (now (ins .entry)) (now (outs .entry)) (now (ins .exit)) (now (outs .exit)) r ⌝ }
 {
     let r = take(
         live,
@@ -59,7 +60,9 @@ fn remove(
         left,
         gate,
         right,
-        table,
+        heads,
+        links,
+        recent,
         k,
         c,
         m as u32,
@@ -84,7 +87,9 @@ fn visit(
     right: &mut [u32],
     ins: &mut [u32],
     outs: &mut [u32],
-    table: &mut [u8],
+    heads: &[u32],
+    links: &[u32],
+    recent: &mut [u32],
     queue: &mut [u8],
     places: &mut [u32],
     k: usize,
@@ -98,12 +103,12 @@ fn visit(
     requires { ⌜ Sound n k c (arrays (now live) (now from) (now to) (now top) (now kind) (now left) (now gate) (now right)) ⌝ }
     requires { ⌜ Ready n k c (arrays (now live) (now from) (now to) (now top) (now kind) (now left) (now gate) (now right)) ⌝ }
     requires { ⌜ Tallied n k (arrays (now live) (now from) (now to) (now top) (now kind) (now left) (now gate) (now right)) (now ins) (now outs) ⌝ }
-    requires { ⌜ Listed k (now live) (now from) (now to) (now table) ⌝ }
+    requires { ⌜ Chained (now from) k (now heads) (now links) ⌝ }
     requires { ⌜ Queued n first last (now ins) (now outs) (now queue) (now places) head tail ⌝ }
-    requires { ⌜ (head < tail) × (tail + (k + k) ≤ n + (c + c)) × (n + (k + k) ≤ length (now queue)) ⌝ }
-    requires { ⌜ (n ≤ length (now ins)) × (n ≤ length (now outs)) × (n ≤ length (now places)) × (max-gates * max-gates ≤ length (now table)) ⌝ }
+    requires { ⌜ (head < tail) × (tail + 2 * sending n k (arrays (now live) (now from) (now to) (now top) (now kind) (now left) (now gate) (now right)) ≤ n + (n + n)) × (n + (n + n) ≤ length (now queue)) ⌝ }
+    requires { ⌜ (n ≤ length (now ins)) × (n ≤ length (now outs)) × (n ≤ length (now places)) × (max-gates ≤ length (now heads)) × (k ≤ length (now links)) × (max-gates ≤ length (now recent)) ⌝ }
     requires { ⌜ (n ≤ max-gates) × (k ≤ max-wires) ⌝ }
-    ensures { λ r. ⌜ Visited n k first last c head tail (arrays (now (live .entry)) (now (from .entry)) (now (to .entry)) (now (top .entry)) (now (kind .entry)) (now (left .entry)) (now (gate .entry)) (now (right .entry))) (arrays (now (live .exit)) (now (from .entry)) (now (to .exit)) (now (top .exit)) (now (kind .exit)) (now (left .exit)) (now (gate .exit)) (now (right .exit))) (now (ins .exit)) (now (outs .exit)) (now (table .exit)) (now (queue .exit)) (now (places .exit)) r ⌝ }
+    ensures { λ r. ⌜ Visited n k first last c head tail (arrays (now (live .entry)) (now (from .entry)) (now (to .entry)) (now (top .entry)) (now (kind .entry)) (now (left .entry)) (now (gate .entry)) (now (right .entry))) (arrays (now (live .exit)) (now (from .entry)) (now (to .exit)) (now (top .exit)) (now (kind .exit)) (now (left .exit)) (now (gate .exit)) (now (right .exit))) (now (ins .exit)) (now (outs .exit)) (now (queue .exit)) (now (places .exit)) r ⌝ }
 {
     let m = queue[head] as usize;
     if !waits(ins, outs, places, head, m, first, last) {
@@ -126,7 +131,9 @@ fn visit(
         right,
         ins,
         outs,
-        table,
+        heads,
+        links,
+        recent,
         k,
         n,
         c,
@@ -150,7 +157,9 @@ pub(crate) fn reduce(
     right: &mut [u32],
     ins: &mut [u32],
     outs: &mut [u32],
-    table: &mut [u8],
+    heads: &[u32],
+    links: &[u32],
+    recent: &mut [u32],
     queue: &mut [u8],
     places: &mut [u32],
     k: usize,
@@ -161,14 +170,14 @@ pub(crate) fn reduce(
     requires { ⌜ Sound n k k (arrays (now live) (now from) (now to) (now top) (now kind) (now left) (now gate) (now right)) ⌝ }
     requires { ⌜ Ready n k k (arrays (now live) (now from) (now to) (now top) (now kind) (now left) (now gate) (now right)) ⌝ }
     requires { ⌜ ((i : ℕ) → i < k → getD (now live) i 0 ≡ 1) ⌝ }
-    requires { ⌜ n + (k + k) ≤ length (now queue) ⌝ }
-    requires { ⌜ (n ≤ length (now ins)) × (n ≤ length (now outs)) × (n ≤ length (now places)) × (max-gates * max-gates ≤ length (now table)) ⌝ }
+    requires { ⌜ Chained (now from) k (now heads) (now links) ⌝ }
+    requires { ⌜ n + (n + n) ≤ length (now queue) ⌝ }
+    requires { ⌜ (n ≤ length (now ins)) × (n ≤ length (now outs)) × (n ≤ length (now places)) × (max-gates ≤ length (now heads)) × (k ≤ length (now links)) × (max-gates ≤ length (now recent)) ⌝ }
     requires { ⌜ (n ≤ max-gates) × (k ≤ max-wires) ⌝ }
     ensures { λ r. ⌜ Ended n k first last (arrays (now (live .entry)) (now (from .entry)) (now (to .entry)) (now (top .entry)) (now (kind .entry)) (now (left .entry)) (now (gate .entry)) (now (right .entry))) (arrays (now (live .exit)) (now (from .entry)) (now (to .exit)) (now (top .exit)) (now (kind .exit)) (now (left .exit)) (now (gate .exit)) (now (right .exit))) r ⌝ }
 {
     tally(to, ins, k, n);
     tally(from, outs, k, n);
-    list(from, to, table, k);
     line_up(queue, places, n);
     let mut c = k;
     let mut head = 0;
@@ -185,7 +194,9 @@ pub(crate) fn reduce(
             right,
             ins,
             outs,
-            table,
+            heads,
+            links,
+            recent,
             queue,
             places,
             k,

@@ -9,7 +9,7 @@ use rooms::curve::curve_with_room;
 ghost use Rattle.model.specs.Answer.{AnswersCurve, CurveBounds, curve-answer};
 
 // The curve's pairs to the front of `widths` and `gains`, with start and the saving at start; or the first refusal of 1 to 11 that fits.
-pub fn curve(file: &[u8], widths: &mut [u32], gains: &mut [u32]) -> CurveAnswer
+pub fn curve(file: &[u8], widths: &mut [u32], gains: &mut [u64]) -> CurveAnswer
     ensures { λ r. ⌜ AnswersCurve (now (file .entry)) (record { for-widths = now (widths .entry); for-gains = now (gains .entry) }) (record { answer = curve-answer r; memory = record { for-widths = now (widths .exit); for-gains = now (gains .exit) } }) ⌝ }
     ensures { λ r. ⌜ CurveBounds r (now (gains .exit)) ⌝ }
 {

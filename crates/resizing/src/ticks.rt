@@ -10,7 +10,7 @@ pub fn fewest_ticks(file: &[u8], wanted: u64) -> TicksAnswer
     ensures { λ r. ⌜ AnswersTicks (now (file .entry)) wanted (record { answer = ticks-answer r; memory = tt }) ⌝ }
 {
     let mut widths = [0u32; MAX_PAIRS];
-    let mut gains = [0u32; MAX_PAIRS];
+    let mut gains = [0u64; MAX_PAIRS];
     let found = curve(file, &mut widths, &mut gains);
     ticks_on_curve(found, &widths, &gains, wanted)
 }

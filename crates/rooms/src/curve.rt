@@ -26,7 +26,7 @@ pub fn curve_with_room(
     wire_delays: &[u32],
     order: &[u32],
     widths: &mut [u32],
-    gains: &mut [u32],
+    gains: &mut [u64],
 ) -> CurveAnswer
     requires { ⌜ ((file : List ℕ) × (arrival : ℕ) × (deadline : ℕ) × HeldFile file n m arrival deadline activity (gate-arrays (now delays) (now activities) (now counts) (now «step_widths») (now drops)) (wire-arrays (now sources) (now targets) (now «wire_delays»)) (now order)) ⌝ }
     ensures { λ r. ⌜ ((file : List ℕ) (arrival deadline : ℕ) → HeldFile file n m arrival deadline activity (gate-arrays (now (delays .entry)) (now (activities .entry)) (now (counts .entry)) (now («step_widths» .entry)) (now (drops .entry))) (wire-arrays (now (sources .entry)) (now (targets .entry)) (now («wire_delays» .entry))) (now (order .entry)) → AnswersCurve file (record { for-widths = now (widths .entry); for-gains = now (gains .entry) }) (record { answer = curve-answer r; memory = record { for-widths = now (widths .exit); for-gains = now (gains .exit) } })) ⌝ }

@@ -25,7 +25,7 @@ use Rattle.planting.proofs.Wires.{few-nodes}
 use Rattle.planting.proofs.Trees.{whole-converted}
 use Rattle.shaping.specs.declared.plant.TreeAnswer.the-variants.{Planted}
 use Rattle.shaping.specs.PlantedBlock.{Given, PlantedOrNot}
-use Rattle.shaping.proofs.Facts.{network, no-wire-twice}
+use Rattle.shaping.proofs.Facts.{join, network, no-wire-twice}
 
 -- There is room for any number of nodes up to the greatest.
 pub few-room : (tree : List ℕ) → tree-words ≤ length tree → (c : ℕ) → c ≤ max-nodes → Room (plot-of tree) c
@@ -53,7 +53,7 @@ module _ {B : Block} {n m : ℕ} {sources targets wire-delays : List ℕ} (given
   few-wires = omega (arith, given .limits .wires-most, given .wired .count)
 
   root-few : {T : Nodes} {t k : ℕ} → Rooted B T t k → (a b : ℕ) → nodes-of (whole a (tree-of T t) b) ≤ max-nodes
-  root-few {T} {t} r a b = omega (arith, few-nodes B (tree-of T t) (r .whole), given .limits .wires-most)
+  root-few {T} {t} r a b = omega (arith, few-nodes B (tree-of T t) (r .whole) (join B (given .limits) (given .sound)), given .limits .gates-most)
 
   -- The root can be copied, and there is room for its tree between two gates.
   pub root-asked : {T : Nodes} {t k : ℕ} (tree : List ℕ) → Rooted B T t k → length (T .kinds) ≡ max-reduced → tree-words ≤ length tree → (a b : ℕ) → Readable T t × Room (plot-of tree) (nodes-of (whole a (tree-of T t) b))

@@ -64,9 +64,6 @@ module _ {P : Plan} {S₀ : State} {i steps : ℕ} (able : Curvable P S₀ i ste
   stored-head : head-at (S .nodes) i ≡ head (P .heads) t (read t (S .increases))
   stored-head = node-head P S i (on .ready) i (omega arith)
 
-  pub gain-small : head-at (S .nodes) i .gain < 2 ^ 32
-  gain-small = let e = ap (λ (a : Head). a .gain) stored-head in omega (arith, able .gains (read t (S .increases)))
-
   width-small : head-at (S .nodes) i .width ≤ max-width
   width-small =
       let e = ap (λ (a : Head). a .width) stored-head in

@@ -63,6 +63,5 @@ module _ {P : Plan} {S : State} (able : Sizable P S) where
         }
 
     -- .. and its runs can be noted
-    pub root-curvable : {steps : ℕ} → ((s : St (part (P .nodes) (root P))) → head (P .heads) (part (P .nodes) (root P)) s .gain < 2 ^ 32)
-        → ((g k : ℕ) → P .heads g k .width ≤ max-width) → steps ≤ most-gates * max-steps → Curvable P S′ (root P) steps
-    root-curvable gains widths few = record { ready = root-ready; above = root-above; gains = gains; widths = widths; few = few }
+    pub root-curvable : {steps : ℕ} → ((g k : ℕ) → P .heads g k .width ≤ max-width) → steps ≤ most-gates * max-steps → Curvable P S′ (root P) steps
+    root-curvable widths few = record { ready = root-ready; above = root-above; widths = widths; few = few }

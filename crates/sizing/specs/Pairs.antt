@@ -2,13 +2,13 @@
 use mathlib.Core.Path.{_≡_}
 use mathlib.Core.Bool.{cond}
 use mathlib.Core.List.{List, [], _∷_}
-use Prim.Native.Nat.{ℕ, zero, suc, _+_, _-_, _*_, _^_, _≤_, _<_}
+use Prim.Native.Nat.{ℕ, zero, suc, _+_, _-_, _*_, _≤_, _<_}
 use lib.Dec.{eqb}
 use lib.ListN.{getD}
 use Rattle.lists.specs.Over.{build}
 use Rattle.model.specs.Limits.{max-steps, max-width}
 use Rattle.model.specs.Curve.{Pair}
-use Rattle.optimum.specs.Tree.{Tree, St}
+use Rattle.optimum.specs.Tree.{Tree}
 use Rattle.optimum.specs.Head.{Head}
 use Rattle.optimum.specs.Handout.{head}
 use Rattle.optimum.specs.Increases.{read, give-list}
@@ -39,11 +39,10 @@ pub record Noted (c r : ℕ) (widths gains widths′ gains′ : List ℕ) (w g :
   pub other-gains : (i : ℕ) → r ≤ i → getD gains′ i 0 ≡ getD gains i 0
   pub wide : (b : ℕ) → ((i : ℕ) → i < c → getD widths i 0 ≤ b) → (i : ℕ) → i < r → getD widths′ i 0 ≤ b + w
 
--- The runs of node i can be noted: no gain and no sum of widths is too great.
+-- The runs of node i can be noted: no sum of widths is too great.
 pub record Curvable (P : Plan) (S : State) (i steps : ℕ) : Type 0 where
   pub ready : Ready P S i
   pub above : i < parent (P .parents) i
-  pub gains : (s : St (part (P .nodes) i)) → head (P .heads) (part (P .nodes) i) s .gain < 2 ^ 32
   pub widths : (g k : ℕ) → P .heads g k .width ≤ max-width
   pub few : steps ≤ most-gates * max-steps
 

@@ -15,7 +15,7 @@ ghost use Rattle.handout.specs.State.{state};
 ghost use Rattle.sizing.specs.Pairs.{Noted, Curvable, Spent};
 
 // Whether the last of `count` pairs has this gain.
-fn continues(count: usize, gain: u32, pair_gains: &[u32]) -> bool
+fn continues(count: usize, gain: u64, pair_gains: &[u64]) -> bool
     requires { ⌜ count ≤ length (now «pair_gains») ⌝ }
     ensures { λ r. ⌜ Says ((0 < count) × (getD (now («pair_gains» .entry)) (count - 1) 0 ≡ gain)) r ⌝ }
 {
@@ -32,9 +32,9 @@ fn continues(count: usize, gain: u32, pair_gains: &[u32]) -> bool
 fn note(
     count: usize,
     width: u32,
-    gain: u32,
+    gain: u64,
     pair_widths: &mut [u32],
-    pair_gains: &mut [u32],
+    pair_gains: &mut [u64],
 ) -> usize
     requires { ⌜ (count < length (now «pair_widths»)) × (count < length (now «pair_gains»)) ⌝ }
     requires { ⌜ ((i : ℕ) → i < count → getD (now «pair_widths») i 0 + width < 2 ^ 32) ⌝ }
@@ -60,7 +60,7 @@ pub fn spend_ticks(
     increases: &mut [u32],
     heads: &mut HeadWords,
     pair_widths: &mut [u32],
-    pair_gains: &mut [u32],
+    pair_gains: &mut [u64],
 ) -> usize
     requires { ⌜ Curvable (plan (now block) (now tree)) (state (now increases) (now heads)) i steps ⌝ }
     requires { ⌜ StepsHeld (now block) ⌝ }
@@ -76,13 +76,7 @@ pub fn spend_ticks(
         if run == 0 {
             return count;
         }
-        count = note(
-            count,
-            run,
-            gain_in(head.key) as u32,
-            pair_widths,
-            pair_gains,
-        );
+        count = note(count, run, gain_in(head.key), pair_widths, pair_gains);
         series_give_out(i, run, block, tree, increases, heads);
         left -= run;
         k += 1;

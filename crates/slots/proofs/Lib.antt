@@ -1,3 +1,3 @@
 pub mod SoughtLaws
-pub mod TableLaws
+pub mod ChainLaws
 pub mod FinishLaws

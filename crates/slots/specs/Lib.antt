@@ -1,3 +1,2 @@
 pub mod Sought
-pub mod Table
 pub mod Picked

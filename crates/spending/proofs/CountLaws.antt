@@ -1,9 +1,9 @@
 -- The curve of a block whose tree stands in words: it is no longer and its gains are no greater than document 01 says, and what ticks earn on the runs on which they are spent is what the increases save beyond the start.
 -- Assumes nothing.
 use mathlib.Core.Path.{_≡_, refl, sym, _∙_, ap}
-use mathlib.Core.List.{List, [], _∷_, List·Memᴰ, List·Memᴰ·head, List·Memᴰ·tail}
-use Prim.Native.Nat.{ℕ, _+_, _-_, _*_, _^_, _≤_, _<_, min, max}
-use native.Mathlib.Nat.{mul-le-mul-right, mul-le-mul-left, add-mul}
+use mathlib.Core.List.{List, List·Memᴰ}
+use Prim.Native.Nat.{ℕ, _+_, _-_, _*_, _^_, _≤_, _<_, max}
+use native.Mathlib.Nat.{mul-le-mul-right}
 use native.Mathlib.Omega.{arith}
 use lib.ListN.{length}
 use Rattle.model.specs.Limits.{max-gates, max-pairs, max-gain, max-activity, max-drop, max-time}
@@ -16,29 +16,19 @@ use Rattle.gains.specs.Savings.{most-of-gate}
 use Rattle.sizing.proofs.Blocks.{heads-are}
 use Rattle.sizing.proofs.Spent.{spent-increases, spent-earns}
 use Rattle.curve.specs.Position.{pairs-in}
+use Rattle.curve.proofs.Earning.{count-off-most}
 use Rattle.shaping.proofs.Facts.{join, no-wire-twice, descending, ranges}
 use Rattle.spending.specs.declared.tree.TreeCurve.{TreeCurve}
 use Rattle.spending.specs.TreeHeld.{TreeArrays, TreeHeld, RunsFound, IncreasesFound}
 use Rattle.spending.proofs.TreeLaws.{is-tree, gates-few, saved-is, steps-are, steps-few}
 
--- k ticks counted off earn at most k times the greatest gain
-count-off-most : (g : ℕ) (ps : List Pair) → ((p : Pair) → List·Memᴰ p ps → p .gain ≤ g) → (k : ℕ) → count-off ps k ≤ k * g
-unfolding count-off
-count-off-most g [] bound k = omega arith
-count-off-most g (p ∷ ps) bound k =
-    let first : min k (p .width) * p .gain ≤ min k (p .width) * g = mul-le-mul-left (min k (p .width)) (bound p (List·Memᴰ·head refl)) in
-    let rest = count-off-most g ps (λ q m. bound q (List·Memᴰ·tail m)) (k - p .width) in
-    let both : (min k (p .width) + (k - p .width)) * g ≡ min k (p .width) * g + (k - p .width) * g = add-mul (min k (p .width)) (k - p .width) g in
-    let all : min k (p .width) + (k - p .width) ≡ k = omega arith in
-    omega (arith, rw all at both)
-
 module _ {B : Block} {n : ℕ} {A : TreeArrays} (h : TreeHeld B n A) where
-  -- "There are at most 512 pairs"
+  -- "at least 1,600 pairs, the most there can be" (document 02, K10)
   pub pairs-short : length (pairs-of B (block-tree B (h .fits))) ≤ max-pairs
   pairs-short =
       omega (arith, pairs-few B (block-tree B (h .fits)) (is-tree h) (descending B (h .limits)), steps-are h, steps-few h)
 
-  -- "a pair's gain is now at most 63 × 65,535 × 1,000"
+  -- "A pair's gain is now at most 199 × 65,535 × 1,000"
   pub gains-few : (p : Pair) → List·Memᴰ p (pairs-of B (block-tree B (h .fits))) → p .gain ≤ max-gain
   gains-few p m =
       let few : max 1 (gate-count B - 1) ≤ max-gates - 1 = omega (arith, h .limits .gates-most) in
@@ -83,3 +73,7 @@ module _ {B : Block} {n : ℕ} {A : TreeArrays} (h : TreeHeld B n A) where
               rw (saved-is h (found .saves), found .at-start, counted-is, list-after)
               (sym (saving-after B (block-tree B (h .fits)) (is-tree h) (descending B (h .limits)) ticks));
         }
+
+  -- and so does what the ticks earn
+  pub earned-fits : {after old-ws old-gs ws gs : List ℕ} {ticks : ℕ} {r : TreeCurve} → RunsFound B (h .fits) n A ticks after old-ws old-gs ws gs r → ticks ≤ max-time → count-off (pairs-in (r .pairs) ws gs) ticks < 2 ^ 64
+  earned-fits found few = omega (arith, sum-fits found refl few)

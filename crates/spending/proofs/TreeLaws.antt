@@ -141,15 +141,6 @@ module _ {B : Block} {n : ℕ} {A : TreeArrays} (h : TreeHeld B n A) where
       (sum-same n (λ (g : ℕ). getD (A .counts) g 0) (λ (g : ℕ). length (gate B g .steps))
       (λ g l. sym (ap (λ ss. length ss) (held-steps B n (A .counts) (A .step-widths) (A .drops) gains-held g l) ∙ length-build (getD (A .counts) g 0) _)))
 
-  -- the gain at the root, whatever the increases, and the widths of all gates' heads
-  root-gain : (x : St (part (A .nodes) (root plan-of))) → head heads (part (A .nodes) (root plan-of)) x .gain < 2 ^ 32
-  root-gain = rw (h .top, heads-are (h .held)) at-block
-    where
-      at-block : (x : St tree) → head (gate-head B) tree x .gain < 2 ^ 32
-      at-block x =
-          let few : max 1 (gate-count B - 1) ≤ max-gates - 1 = omega (arith, h .limits .gates-most) in
-          omega (arith, mul-le-mul-right (max-activity * max-drop) few, block-gain B max-activity max-drop (ranges B (h .limits)) (join B (h .limits) (h .sound)) (no-wire-twice B (h .limits) (h .sound)) (h .fits) x)
-
   pub steps-few : sum n (λ (g : ℕ). getD (A .counts) g 0) ≤ max-pairs
   steps-few = omega (arith, sum-most n, gates-few)
     where
@@ -159,7 +150,7 @@ module _ {B : Block} {n : ℕ} {A : TreeArrays} (h : TreeHeld B n A) where
   -- from the raised start on, all runs can be noted
   pub curvable : {S : State} {s : ℕ} → Raised plan-of (delays-in (A .delays)) S
       → s ≡ sum n (λ (g : ℕ). getD (A .counts) g 0) → Curvable plan-of S (root plan-of) s
-  curvable raised e = root-curvable at-rest raised root-gain (widths-small steps-lent narrow) (omega (arith, steps-few))
+  curvable raised e = root-curvable at-rest raised (widths-small steps-lent narrow) (omega (arith, steps-few))
     where
       at-rest : Sizable plan-of (state (replicate n 0) (replicate (head-entries * 2) 0))
       at-rest = sizable (replicate (head-entries * 2) 0) (length-replicate {A = ℕ} n 0) (omega (arith, length-replicate {A = ℕ} (head-entries * 2) 0))

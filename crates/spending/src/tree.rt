@@ -56,7 +56,7 @@ fn tree_runs(
     delays: &[u32],
     increases: &mut [u32],
     pair_widths: &mut [u32],
-    pair_gains: &mut [u32],
+    pair_gains: &mut [u64],
 ) -> TreeCurve
     requires { ⌜ ((B : Block) × TreeHeld B n (tree-arrays (now tree) (now counts) (now «step_widths») (now drops) (now inputs) (now delays))) ⌝ }
     requires { ⌜ length (now increases) ≡ n ⌝ }
@@ -95,7 +95,7 @@ pub fn tree_curve(
     delays: &[u32],
     increases: &mut [u32],
     pair_widths: &mut [u32],
-    pair_gains: &mut [u32],
+    pair_gains: &mut [u64],
 ) -> TreeCurve
     requires { ⌜ ((B : Block) × TreeHeld B n (tree-arrays (now tree) (now counts) (now «step_widths») (now drops) (now inputs) (now delays))) ⌝ }
     requires { ⌜ length (now increases) ≡ n ⌝ }
@@ -134,7 +134,7 @@ pub fn tree_increases(
     ensures { λ r. ⌜ ((B : Block) (held : TreeHeld B n (tree-arrays (now (tree .entry)) (now (counts .entry)) (now («step_widths» .entry)) (now (drops .entry)) (now (inputs .entry)) (now (delays .entry)))) → IncreasesFound B (held .fits) ticks (now (increases .exit)) r) ⌝ }
 {
     let mut pair_widths = [0u32; MAX_PAIRS];
-    let mut pair_gains = [0u32; MAX_PAIRS];
+    let mut pair_gains = [0u64; MAX_PAIRS];
     let found = tree_runs(
         ticks,
         n,

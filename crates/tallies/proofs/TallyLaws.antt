@@ -1,9 +1,9 @@
--- What a tally tells of the slots at its gate (`tally-one`, `only-tally`), and how tallies change when two slots do (`tally-changes`, `settled-right`) or a slot is counted (`tallied-more`). Assumes nothing.
+-- What a tally tells of the slots at its gate (`tally-one`, `only-tally`), and how tallies change when two slots do (`tally-changes`, `settled-right`), a slot is counted (`tallied-more`) or the only one of a gate dies (`end-gates-less`). Assumes nothing.
 use mathlib.Core.Path.{_≡_, refl, sym, _∙_, ap, subst}
 use mathlib.Core.Logic.{_≢_}
 use mathlib.Core.Bool.{Bool, true, false, cond}
 use mathlib.Core.List.{List}
-use Prim.Native.Nat.{ℕ, zero, suc, _+_, _-_, _*_, _≤_, _<_}
+use Prim.Native.Nat.{ℕ, zero, suc, _+_, _-_, _*_, _≤_, _<_, min}
 use native.Mathlib.Decide.{ℕ-discrete}
 use native.Mathlib.Numerals.{add-one}
 use native.Mathlib.Omega.{arith}
@@ -12,9 +12,9 @@ use lib.Dec.{eqb}
 use lib.ListN.{length, getD, set, length-set}
 use lib.Seq.{getD-set-same, getD-set-other}
 use Rattle.lists.specs.Sum.{sum}
-use Rattle.lists.proofs.Sum.{sum-grows}
+use Rattle.lists.proofs.Sum.{sum-le, sum-less, sum-grows}
 use Rattle.model.specs.Limits.{max-wires}
-use Rattle.tallies.specs.Tallies.{share, share-at, tally, OnlyAt, settled, kept-share, TalliedBy}
+use Rattle.tallies.specs.Tallies.{share, most-share, share-at, tally, end-gates, OnlyAt, settled, kept-share, TalliedBy}
 use Rattle.tallies.specs.Queue.{One}
 
 -- one more tally put to 0
@@ -112,11 +112,11 @@ module _ (lives ends : List ℕ) (g i : ℕ) where
       go (no n) e = absurd (let z = share-dead n in omega (arith, z))
       go (yes l) (no n) = absurd (let z = share-elsewhere n in omega (arith, z))
 
-  -- a share is at most 511
-  share-few : i < max-wires → share-at lives ends g i ≤ 511
+  -- no share is more than `most-share`
+  share-few : i < max-wires → share-at lives ends g i ≤ most-share
   share-few h = go (ℕ-discrete (getD lives i 0) 1) (ℕ-discrete (getD ends i 0) g)
     where
-      go : Dec (getD lives i 0 ≡ 1) → Dec (getD ends i 0 ≡ g) → share-at lives ends g i ≤ 511
+      go : Dec (getD lives i 0 ≡ 1) → Dec (getD ends i 0 ≡ g) → share-at lives ends g i ≤ most-share
       go (yes l) (yes e) = let z = share-there l e in omega (arith, z)
       go (no n) e = let z = share-dead n in omega (arith, z)
       go (yes l) (no n) = let z = share-elsewhere n in omega (arith, z)
@@ -131,7 +131,7 @@ module _ (lives ends : List ℕ) where
   unfolding tally sum
   tally-more k g = rw add-one refl
 
-  pub tally-few : (k g : ℕ) → k ≤ max-wires → tally lives ends k g ≤ k * 511
+  pub tally-few : (k g : ℕ) → k ≤ max-wires → tally lives ends k g ≤ k * most-share
   unfolding tally sum
   tally-few zero g h = omega arith
   tally-few (suc k) g h = omega (arith, tally-few k g (omega arith), share-few lives ends g k (omega arith))
@@ -178,6 +178,42 @@ module _ (lives ends : List ℕ) where
 
       e : i ≡ tally lives ends k g - max-wires
       e = let t = only-tally found in omega (arith, t)
+
+  pub end-gates-few : (k n : ℕ) → end-gates lives ends k n ≤ n
+  unfolding end-gates sum
+  end-gates-few k zero = omega arith
+  end-gates-few k (suc n) = omega (arith, end-gates-few k n)
+
+-- Slots die, among them the only one at gate g, and none comes to life: then fewer gates have a slot.
+module _ {lives ends : List ℕ} (lives′ : List ℕ) {k g i : ℕ} (o : OnlyAt lives ends k g i) (dead : getD lives′ i 0 ≡ 1 → ⊥) (was : (q : ℕ) → getD lives′ q 0 ≡ 1 → getD lives q 0 ≡ 1) where
+  share-less : (v q : ℕ) → share-at lives′ ends v q ≤ share-at lives ends v q
+  share-less v q = go (ℕ-discrete (getD lives′ q 0) 1)
+    where
+      go : Dec (getD lives′ q 0 ≡ 1) → share-at lives′ ends v q ≤ share-at lives ends v q
+      go (yes l) = rw (eq-eqb (getD lives′ q 0) 1 l, eq-eqb (getD lives q 0) 1 (was q l)) (omega arith)
+      go (no n) = let z = share-dead lives′ ends v q n in omega (arith, z)
+
+  tally-less : (v : ℕ) → tally lives′ ends k v ≤ tally lives ends k v
+  unfolding tally
+  tally-less v = sum-le k (share-at lives′ ends v) (share-at lives ends v) (λ q h. share-less v q)
+
+  tally-gone : tally lives′ ends k g ≡ 0
+  unfolding tally
+  tally-gone = go (ℕ-discrete (sum k (share-at lives′ ends g)) 0)
+    where
+      go : Dec (sum k (share-at lives′ ends g) ≡ 0) → sum k (share-at lives′ ends g) ≡ 0
+      go (yes e) = e
+      go (no n) =
+          let (q, h, p) = sum-some k (share-at lives′ ends g) (omega arith) in
+          let (l, e) = share-some lives′ ends g q p in
+          absurd (dead (subst (λ z. getD lives′ z 0 ≡ 1) (o .only q h (was q l) e) l))
+
+  pub end-gates-less : {n : ℕ} → g < n → end-gates lives′ ends k n < end-gates lives ends k n
+  unfolding end-gates
+  end-gates-less {n} h =
+      sum-less n (λ v. min 1 (tally lives′ ends k v)) (λ v. min 1 (tally lives ends k v)) g h
+      (λ v l. let x = tally-less v in omega (arith, x))
+      (let x = tally-gone in let y = only-tally lives ends o in omega (arith, x, y))
 
 -- two slots changed
 pub tally-changes :
@@ -234,19 +270,19 @@ kept-lives c r i e = rw (eq-eqb r (c + 1) e) refl
 pub kept-none : (c r i : ℕ) → (r ≡ c + 1 → ⊥) → 0 ≡ kept-share c r i
 kept-none c r i d = rw (ne-eqb r (c + 1) d) refl
 
-pub kept-few : (c r i : ℕ) → i < max-wires → kept-share c r i ≤ 511
+pub kept-few : (c r i : ℕ) → i < max-wires → kept-share c r i ≤ most-share
 kept-few c r i h = go (eqb r (c + 1))
   where
-    go : (b : Bool) → cond b (share i) 0 ≤ 511
+    go : (b : Bool) → cond b (share i) 0 ≤ most-share
     go true = omega arith
     go false = omega arith
 
--- one slot more counted: no tally rises by more than 511
-pub few-more : (tallies : List ℕ) (n i end : ℕ) → i < max-wires → end < n → n ≤ length tallies → ((g : ℕ) → g < n → getD tallies g 0 ≤ i * 511)
-    → (g : ℕ) → g < n → getD (set tallies end (getD tallies end 0 + share i)) g 0 ≤ (i + 1) * 511
+-- one slot more counted: no tally rises by more than `most-share`
+pub few-more : (tallies : List ℕ) (n i end : ℕ) → i < max-wires → end < n → n ≤ length tallies → ((g : ℕ) → g < n → getD tallies g 0 ≤ i * most-share)
+    → (g : ℕ) → g < n → getD (set tallies end (getD tallies end 0 + share i)) g 0 ≤ (i + 1) * most-share
 few-more tallies n i end few below long all g h = go (ℕ-discrete g end)
   where
-    go : Dec (g ≡ end) → getD (set tallies end (getD tallies end 0 + share i)) g 0 ≤ (i + 1) * 511
+    go : Dec (g ≡ end) → getD (set tallies end (getD tallies end 0 + share i)) g 0 ≤ (i + 1) * most-share
     go (yes e) = let x = getD-set-same tallies end (getD tallies end 0 + share i) 0 (omega arith) in let y = all end below in rw e (omega (arith, x, y))
     go (no d) = let x = getD-set-other tallies end g (getD tallies end 0 + share i) 0 d in let y = all g h in omega (arith, x, y)
 

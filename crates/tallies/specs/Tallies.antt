@@ -2,7 +2,7 @@
 use mathlib.Core.Path.{_≡_}
 use mathlib.Core.Bool.{Bool, _&&_, cond}
 use mathlib.Core.List.{List}
-use Prim.Native.Nat.{ℕ, _+_, _-_, _<_}
+use Prim.Native.Nat.{ℕ, _+_, _-_, _<_, min}
 use lib.Dec.{eqb}
 use lib.ListN.{getD, set}
 use Rattle.lists.specs.Sum.{sum}
@@ -16,6 +16,10 @@ ends-at lives ends g i = eqb (getD lives i 0) 1 && eqb (getD ends i 0) g
 abbrev pub share : ℕ → ℕ
 share i = max-wires + i
 
+-- no slot adds as much
+abbrev pub most-share : ℕ
+most-share = max-wires + max-wires
+
 -- what slot i adds to the tally of gate g
 abbrev pub share-at : List ℕ → List ℕ → ℕ → ℕ → ℕ
 share-at lives ends g i = cond (ends-at lives ends g i) (share i) 0
@@ -23,6 +27,10 @@ share-at lives ends g i = cond (ends-at lives ends g i) (share i) 0
 -- the tally of gate g by the slots below k
 unfoldable pub tally : List ℕ → List ℕ → ℕ → ℕ → ℕ
 tally lives ends k g = sum k (share-at lives ends g)
+
+-- how many of the first n gates some live slot below k ends at
+unfoldable pub end-gates : List ℕ → List ℕ → ℕ → ℕ → ℕ
+end-gates lives ends k n = sum n (λ g. min 1 (tally lives ends k g))
 
 -- slot i is the only one of k slots that is live and ends at g
 pub record OnlyAt (lives ends : List ℕ) (k g i : ℕ) : Type 0 where

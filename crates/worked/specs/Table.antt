@@ -2,9 +2,10 @@
 -- Every p is 128, but in the blocks of K3; arrival is 0. Where the document leaves them free, chosen here: delay 1 for the gates of the bridge, the triangle and 001's chain, no steps for those of the bridge and the triangle; deadline 9 for these and for 001's parallel gates (in a curve it plays no part).
 -- Lent slices are filled with 9 and, but for the empty file, one element longer than needed: a row shows that what lies beyond is unchanged.
 use mathlib.Core.List.{List, [], _∷_, _++_}
-use Prim.Native.Nat.{ℕ, _+_, _*_}
+use Prim.Native.Nat.{ℕ, _+_, _-_, _*_}
 use lib.IntN.{pos}
 use lib.ListN.{replicate}
+use Rattle.model.specs.Limits.{max-pairs}
 use Rattle.model.specs.Block.{Step, Wire}
 use Rattle.model.specs.Netlist.{DrawnGate, Netlist}
 use Rattle.model.specs.File.{encode}
@@ -116,9 +117,9 @@ nines n = replicate n 9
 abbrev nine-slices : ℕ → Slices
 nine-slices n = record { for-widths = nines n; for-gains = nines n }
 
--- the two slices of 513 elements with these five in front
+-- the two slices of one element more than a curve can have pairs, with these five in front
 abbrev pairs : List ℕ → List ℕ → Slices
-pairs ws gs = record { for-widths = ws ++ nines 508; for-gains = gs ++ nines 508 }
+pairs ws gs = record { for-widths = ws ++ nines (max-pairs - 4); for-gains = gs ++ nines (max-pairs - 4) }
 
 unfoldable pub table : List Row
 table =
@@ -145,18 +146,18 @@ table =
     ∷ record { call = find-best (chain-of-two 8) (nines 3); expected = gives (18 * U ∷ 2 ∷ []) (4 ∷ 2 ∷ 9 ∷ []) }
     -- "wires 0-1, 0-2, 1-2, 1-3, 2-3: 11", whether the curve or the best increases are asked for; "the bridge case in document 01 now gives 11 with 1" (document 02, K1)
     ∷ record { call = find-best bridge (nines 5); expected = refuses 11 1 (nines 5) }
-    ∷ record { call = find-curve bridge (nine-slices 513); expected = refuses 11 1 (nine-slices 513) }
+    ∷ record { call = find-curve bridge (nine-slices (max-pairs + 1)); expected = refuses 11 1 (nine-slices (max-pairs + 1)) }
     -- "Wires 0-1, 1-2, 0-2: series-parallel", so that both are given
     ∷ record { call = find-best triangle (nines 4); expected = gives (0 ∷ 3 ∷ []) (0 ∷ 0 ∷ 0 ∷ 9 ∷ []) }
-    ∷ record { call = find-curve triangle (nine-slices 513); expected = gives (3 ∷ 0 ∷ 0 ∷ []) (nine-slices 513) }
+    ∷ record { call = find-curve triangle (nine-slices (max-pairs + 1)); expected = gives (3 ∷ 0 ∷ 0 ∷ []) (nine-slices (max-pairs + 1)) }
     -- "001's chain: pairs (3,28),(9,26),(7,24),(4,23),(3,21), gains in U"
     ∷ record {
-      call = find-curve (chain-of-three 1 128) (nine-slices 513);
+      call = find-curve (chain-of-three 1 128) (nine-slices (max-pairs + 1));
       expected = gives (3 ∷ 0 ∷ 5 ∷ []) (pairs (3 ∷ 9 ∷ 7 ∷ 4 ∷ 3 ∷ []) (28 * U ∷ 26 * U ∷ 24 * U ∷ 23 * U ∷ 21 * U ∷ []));
     }
     -- "001's parallel gates: start 3, 24U at start, pairs (1,52),(2,51),(2,47),(3,24),(3,21)"
     ∷ record {
-      call = find-curve (parallel-gates 1 128) (nine-slices 513);
+      call = find-curve (parallel-gates 1 128) (nine-slices (max-pairs + 1));
       expected = gives (3 ∷ 24 * U ∷ 5 ∷ []) (pairs (1 ∷ 2 ∷ 2 ∷ 3 ∷ 3 ∷ []) (52 * U ∷ 51 * U ∷ 47 * U ∷ 24 * U ∷ 21 * U ∷ []));
     }
     -- K2: wire delays 1, 0, 0 and 2. The path over gate 1 lasts 8 ticks and the one over gate 2 lasts 7, so that gate 2 has one tick more
@@ -167,7 +168,7 @@ table =
     ∷ record { call = judge-list (delayed-diamond 1 0 0 2) (0 ∷ 0 ∷ 1 ∷ 4 ∷ 9 ∷ []); expected = gives (52 * U ∷ []) (0 ∷ 0 ∷ 1 ∷ 4 ∷ 9 ∷ []) }
     ∷ record { call = judge-list (delayed-diamond 1 0 0 2) (0 ∷ 0 ∷ 2 ∷ 4 ∷ 9 ∷ []); expected = refuses 14 0 (0 ∷ 0 ∷ 2 ∷ 4 ∷ 9 ∷ []) }
     ∷ record {
-      call = find-curve (delayed-diamond 1 0 0 2) (nine-slices 513);
+      call = find-curve (delayed-diamond 1 0 0 2) (nine-slices (max-pairs + 1));
       expected = gives (8 ∷ 4 * U ∷ 4 ∷ []) (pairs (5 ∷ 2 ∷ 1 ∷ 2 ∷ 9 ∷ []) (12 * U ∷ 9 * U ∷ 6 * U ∷ 2 * U ∷ 9 ∷ []));
     }
     ∷ record { call = find-best (delayed-diamond 1 0 0 2) (nines 5); expected = gives (52 * U ∷ 4 ∷ []) (0 ∷ 0 ∷ 1 ∷ 4 ∷ 9 ∷ []) }
@@ -175,11 +176,11 @@ table =
     ∷ record { call = find-best (delayed-diamond 0 4 0 0) (nines 5); expected = gives (46 * U ∷ 4 ∷ []) (0 ∷ 2 ∷ 0 ∷ 3 ∷ 9 ∷ []) }
     -- K3, "compared with 001 by these counts": 001's chain and parallel gates, every activity 1. The gains are the paper's own numbers
     ∷ record {
-      call = find-curve (chain-of-three 3 1) (nine-slices 513);
+      call = find-curve (chain-of-three 3 1) (nine-slices (max-pairs + 1));
       expected = gives (3 ∷ 0 ∷ 5 ∷ []) (pairs (3 ∷ 9 ∷ 7 ∷ 4 ∷ 3 ∷ []) (28 ∷ 26 ∷ 24 ∷ 23 ∷ 21 ∷ []));
     }
     ∷ record {
-      call = find-curve (parallel-gates 3 1) (nine-slices 513);
+      call = find-curve (parallel-gates 3 1) (nine-slices (max-pairs + 1));
       expected = gives (3 ∷ 24 ∷ 5 ∷ []) (pairs (1 ∷ 2 ∷ 2 ∷ 3 ∷ 3 ∷ []) (52 ∷ 51 ∷ 47 ∷ 24 ∷ 21 ∷ []));
     }
     -- K3: input activity 1, nets 3, 5, 7 and 11. A tick saves 3 × 4 at gate 2 and (5 + 7) × 6 at gate 3

@@ -5,7 +5,8 @@
 use reference::block::MAX_GATES;
 use reference::compare::calls::bytes_of;
 use reference::ffi;
-use reference::measure::{cells, files, kept, least_times, print_cells, print_ratios, Times, MOST_WIRE_DELAY, SIZES};
+use reference::measure::{cells, files, kept, least_times, print_cells, print_ratios, Times};
+use reference::measure::{MIDDLE, MOST_WIRE_DELAY, SIZES};
 use reference::merging;
 use reference::shapes::ALL_SHAPES;
 
@@ -35,8 +36,8 @@ fn measure(files: &[Vec<u8>]) -> Times {
 }
 
 /// The exponent e of times that grow as gates to the power e: the slope of the logarithms, by least squares.
-fn exponent(times: &[f64]) -> f64 {
-    let x: Vec<f64> = SIZES.iter().map(|&n| (n as f64).ln()).collect();
+fn exponent(sizes: &[usize], times: &[f64]) -> f64 {
+    let x: Vec<f64> = sizes.iter().map(|&n| (n as f64).ln()).collect();
     let y: Vec<f64> = times.iter().map(|t| t.ln()).collect();
     let mean = |v: &[f64]| v.iter().sum::<f64>() / v.len() as f64;
     let (mx, my) = (mean(&x), mean(&y));
@@ -55,16 +56,25 @@ fn ratios() {
     print_ratios(&cells(3, measure));
 }
 
+/// The exponents of both sides up to the middle size, and of both from it on.
+fn exponents(times: &[Times]) -> [f64; 4] {
+    let plain: Vec<f64> = times.iter().map(|t| t.against).collect();
+    let library: Vec<f64> = times.iter().map(|t| t.measured).collect();
+    let up_to = |times: &[f64]| exponent(&SIZES[..=MIDDLE], &times[..=MIDDLE]);
+    let from = |times: &[f64]| exponent(&SIZES[MIDDLE..], &times[MIDDLE..]);
+    [up_to(&plain), up_to(&library), from(&plain), from(&library)]
+}
+
 fn growth() {
-    println!("growth from {} to {} gates: time grows as gates to the power of", SIZES[0], SIZES[SIZES.len() - 1]);
-    println!("shape   steps plain library");
+    let [least, middle, most] = [SIZES[0], SIZES[MIDDLE], SIZES[SIZES.len() - 1]];
+    println!("growth: time grows as gates to the power of");
+    println!("shape   steps {least} to {middle} gates: plain library; {middle} to {most} gates: plain library");
     for shape in ALL_SHAPES {
         for steps in [1, 8] {
             let times: Vec<Times> = SIZES.iter().map(|&gates| measure(&files(1, shape, gates, steps))).collect();
-            let plain: Vec<f64> = times.iter().map(|t| t.against).collect();
-            let library: Vec<f64> = times.iter().map(|t| t.measured).collect();
             let name = format!("{shape:?}").to_lowercase();
-            println!("{name:7} {steps:5} {:5.2} {:7.2}", exponent(&plain), exponent(&library));
+            let [plain, library, plain_above, library_above] = exponents(&times);
+            println!("{name:7} {steps:5} {plain:20.2} {library:7.2} {plain_above:23.2} {library_above:7.2}");
         }
     }
 }

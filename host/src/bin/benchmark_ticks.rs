@@ -3,7 +3,8 @@
 //! The fewest ticks make two slices of their own for the curve, so the second comparison is with a caller who makes them anew
 //! for each call too.
 
-use reference::answers::{self, MAX_PAIRS};
+use reference::answers;
+use reference::block::MAX_PAIRS;
 use reference::ffi;
 use reference::measure::{cells, kept, least_times, print_cells, print_ratios, Times};
 
@@ -15,10 +16,12 @@ fn whole(file: &[u8]) -> (u64, u64) {
 
 /// The curve, to slices that are cleared before each call or not, and the fewest ticks measured against it.
 fn measure(files: &[Vec<u8>], cleared: bool) -> Times {
-    let (mut widths, mut gains) = ([0; MAX_PAIRS], [0; MAX_PAIRS]);
-    let wanted: Vec<(&[u8], u64)> = files.iter().map(|file| (&file[..], whole(file).0)).collect();
-    for (file, wanted) in &wanted {
-        assert_eq!(ffi::fewest_ticks(file, *wanted).ticks, whole(file).1);
+    let (mut widths, mut gains) = ([0u32; MAX_PAIRS], [0u64; MAX_PAIRS]);
+    let mut wanted: Vec<(&[u8], u64)> = Vec::new();
+    for file in files {
+        let (saving, ticks) = whole(file);
+        assert_eq!(ffi::fewest_ticks(file, saving).ticks, ticks);
+        wanted.push((file, saving));
     }
     least_times(
         &wanted,

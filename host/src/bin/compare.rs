@@ -15,7 +15,7 @@ use std::process::exit;
 trait Calls {
     fn best_increases(&mut self, file: &[u8], increases: &mut [u8]) -> Answer;
     fn slacks(&mut self, file: &[u8], slacks: &mut [i32]) -> Answer;
-    fn curve(&mut self, file: &[u8], widths: &mut [u32], gains: &mut [u32]) -> CurveAnswer;
+    fn curve(&mut self, file: &[u8], widths: &mut [u32], gains: &mut [u64]) -> CurveAnswer;
     fn judge(&mut self, file: &[u8], increases: &[u32]) -> Answer;
     fn fewest_ticks(&mut self, file: &[u8], wanted: u64) -> TicksAnswer;
 }
@@ -31,7 +31,7 @@ impl Calls for AsItIs {
         ffi::slacks(file, slacks)
     }
 
-    fn curve(&mut self, file: &[u8], widths: &mut [u32], gains: &mut [u32]) -> CurveAnswer {
+    fn curve(&mut self, file: &[u8], widths: &mut [u32], gains: &mut [u64]) -> CurveAnswer {
         ffi::curve(file, widths, gains)
     }
 
@@ -62,7 +62,7 @@ impl Calls for InPages {
         self.one.lend(slacks, |slacks| ffi::slacks(file, slacks))
     }
 
-    fn curve(&mut self, file: &[u8], widths: &mut [u32], gains: &mut [u32]) -> CurveAnswer {
+    fn curve(&mut self, file: &[u8], widths: &mut [u32], gains: &mut [u64]) -> CurveAnswer {
         let (file, other) = (self.file.show(file), &mut self.other);
         self.one.lend(widths, |widths| other.lend(gains, |gains| ffi::curve(file, widths, gains)))
     }

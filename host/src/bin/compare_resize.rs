@@ -1,12 +1,12 @@
 //! compare-resize PROGRAM [FILES [SEED]]: what the printing program writes against the reference's printout.
 
 use reference::arguments::{numbers, usage};
-use reference::block::{decode, encode};
+use reference::block::{decode, encode, MAX_BYTES, MAX_GATES};
 use reference::compare::{complete, elevens};
-use reference::generate::compared_block;
 use reference::generate::editions::{in_edition_3, Counted};
 use reference::generate::limits::{largest_file, largest_measured_file, most_wires};
-use reference::printout::{printout, MAX_BYTES};
+use reference::generate::{compared_block, MIDDLE_GATES};
+use reference::printout::printout;
 use reference::random::Random;
 use reference::text::shown;
 use reference::{boundaries, damage, worked};
@@ -87,7 +87,8 @@ fn long_inputs() -> Vec<Vec<u8>> {
 /// Random block files of any edition, every fourth one damaged.
 fn random_inputs(random: &mut Random, files: u64) -> Vec<Vec<u8>> {
     let mut input = || {
-        let file = encode(&compared_block(random, 64));
+        let most_gates = if random.chance(1, 8) { MAX_GATES } else { MIDDLE_GATES };
+        let file = encode(&compared_block(random, most_gates));
         if random.chance(1, 4) {
             damage::damaged(random, &file)
         } else {

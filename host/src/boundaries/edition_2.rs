@@ -1,9 +1,9 @@
 //! Boundaries that came with edition 2 (document 02, K2).
 
 use super::{
-    accepted, and, bridges, chain, d, gate, high_bridges, in_series, plain, refused, replaced, with, Boundary,
+    accepted, and, bridges, chain, d, gate, high_bridges, in_series, plain, refused, replaced, with, Boundary, LAST,
 };
-use crate::block::{decode, encode, Block, Gate};
+use crate::block::{decode, encode, Block, Gate, MAX_GATES, MAX_WIRE_DELAY};
 use crate::generate::editions::delay_wires;
 use crate::generate::limits::largest_file;
 use crate::worked::delayed_diamond;
@@ -51,7 +51,7 @@ fn editions() -> Vec<Boundary> {
         accepted("a lone gate in edition 2", replaced(chain(1), 3, &[2])),
         refused("a lone gate in edition 4", replaced(chain(1), 3, &[4]), 4, 0),
         refused("edition 2 without a wire", cut2(55), 9, 0),
-        refused("edition 2 and 65 gates", replaced(chain(65), 3, &[2]), 4, 0),
+        refused("edition 2 and a gate more", replaced(chain(MAX_GATES + 1), 3, &[2]), 4, 0),
         refused("a wire of 4 bytes among those of edition 1", and(d(), &[3, 0, 4, 0, 3, 0, 0]), 3, 75),
         refused("a wire of 2 bytes among those of edition 2", and(d2(), &[3, 0, 2, 0, 3]), 3, 83),
     ]
@@ -109,11 +109,11 @@ fn wire_delays() -> Vec<Boundary> {
     ]
 }
 
-/// Chains at the limits of time: 15 wires of 4,095 ticks take 61,425, 16 take 65,520, 63 take 257,985; each gate takes 1.
+/// Chains at the limits of time: 15 wires of 4,095 ticks take 61,425, 16 take 65,520; each gate takes 1.
 fn long_times() -> Vec<Boundary> {
     let chain = |delays: &[u32]| encode(&delayed_chain(delays));
     let with_last = |last: u32| chain(&[&[4_095; 15][..], &[last]].concat());
-    let mut slowest = delayed_chain(&[4_095; 63]);
+    let mut slowest = delayed_chain(&[MAX_WIRE_DELAY; MAX_GATES - 1]);
     slowest.gates.fill(Gate { delay: 4_095, ..gate(&[(4_095, 1_000), (4_095, 999)]) });
     let never = encode(&Block { arrival: 65_535, deadline: 0, ..slowest.clone() });
     let d = |deadline| encode(&Block { deadline, ..delayed_diamond([1, 0, 0, 2]) });
@@ -123,8 +123,8 @@ fn long_times() -> Vec<Boundary> {
         accepted("wire delays that leave spare 0", with_last(4_093)),
         refused("wire delays that leave spare -1", with_last(4_094), 12, 0),
         refused("17 gates and 16 wires of delay 4,095", with_last(4_095), 12, 0),
-        refused("64 gates and 63 wires of delay 4,095", chain(&[4_095; 63]), 12, 0),
-        refused("every delay of a chain of 64 gates at its limit", encode(&slowest), 12, 0),
+        refused("the most gates and wires of delay 4,095", chain(&[MAX_WIRE_DELAY; MAX_GATES - 1]), 12, 0),
+        refused("every delay of a chain of the most gates at its limit", encode(&slowest), 12, 0),
         refused("the same with arrival 65,535 and deadline 0", never, 12, 0),
         accepted("edition 2, spare 0", d(8)),
         refused("edition 2, spare -1", d(7), 12, 0),
@@ -132,19 +132,19 @@ fn long_times() -> Vec<Boundary> {
     ]
 }
 
-/// The longest file: fields up to the gates take 11 + 64 x 39 bytes, 256 wires 7 each, which is 4,299.
+/// The longest file; check-reference has its length by hand.
 fn longest_files() -> Vec<Boundary> {
     let full = largest_file();
-    assert_eq!(full.len(), 4_299);
+    let end = full.len() as u32;
     vec![
         // no gate has one wire in and one wire out, so all are left
-        refused("64 gates of 8 steps and 256 wires of edition 2", full.clone(), 11, 1),
-        refused("the same without its last byte", full[..4_298].to_vec(), 1, 4_292),
-        // 227 wires, among them no wire between neighbours below gate 29
-        refused("its first 4,096 bytes", full[..4_096].to_vec(), 9, 1),
-        refused("one byte behind it", and(full.clone(), &[0]), 7, 4_299),
-        refused("a 257th wire of edition 2", and(full.clone(), &[3, 0, 4, 0, 63, 0, 1]), 7, 4_299),
-        refused("a 257th wire that stood before, of edition 2", and(full, &[3, 0, 4, 0, 1, 0, 1]), 7, 4_299),
+        refused("the longest file of edition 2", full.clone(), 11, 1),
+        refused("the same without its last byte", full[..full.len() - 1].to_vec(), 1, end - 7),
+        // 54 wires, none of them between neighbours
+        refused("its gates and some of its wires", full[..8_189].to_vec(), 9, 1),
+        refused("one byte behind it", and(full.clone(), &[0]), 7, end),
+        refused("a wire more in edition 2", and(full.clone(), &[3, 0, 4, 0, LAST, 0, 1]), 7, end),
+        refused("a wire more that stood before, in edition 2", and(full, &[3, 0, 4, 0, 1, 0, 1]), 7, end),
     ]
 }
 

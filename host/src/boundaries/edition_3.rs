@@ -1,8 +1,8 @@
 //! Boundaries that came with edition 3 (document 02, K3).
 
 use super::edition_2::delayed_chain;
-use super::{accepted, and, chain, gate, lone, refused, replaced, with, Boundary};
-use crate::block::{encode, Block, Gate};
+use super::{accepted, and, chain, gate, lone, refused, replaced, with, Boundary, LAST};
+use crate::block::{encode, Block, Gate, MAX_GATES};
 use crate::generate::limits::{largest_measured_file, largest_measured_gain};
 use crate::worked::delayed_diamond;
 use crate::worked::edition_3::measured;
@@ -45,7 +45,7 @@ fn editions() -> Vec<Boundary> {
         refused("edition 3 with wires of 2 bytes", with(3, &[3]), 3, 55),
         accepted("a lone gate in edition 3", edition(chain(1), 3)),
         refused("edition 3 without a wire", cut3(55), 9, 0),
-        refused("edition 3 and 65 gates", edition(chain(65), 3), 4, 0),
+        refused("edition 3 and a gate more", edition(chain(MAX_GATES + 1), 3), 4, 0),
         refused("edition 3 and no gate", with3(4, &[0]), 4, 0),
         refused("edition 3 and a block of 10 bytes", with3(1, &[0, 10]), 3, 0),
     ]
@@ -135,17 +135,17 @@ fn other_faults() -> Vec<Boundary> {
 fn limits() -> Vec<Boundary> {
     let delayed = |delay| encode(&measured(delayed_chain(&[delay]), repeat(65_535)));
     let full = largest_measured_file();
-    assert_eq!(full.len(), 4_299);
+    let end = full.len() as u32;
     vec![
         accepted("edition 3, wire delay 4,095", delayed(4_095)),
         refused("edition 3, wire delay 4,096", delayed(4_096), 4, 33),
         accepted("the largest gain of edition 3", encode(&largest_measured_gain())),
         // no gate has one wire in and one wire out, so all are left
-        refused("64 gates of 8 steps and 256 wires of edition 3", full.clone(), 11, 1),
-        refused("the same without its last byte, in edition 3", full[..4_298].to_vec(), 1, 4_292),
+        refused("the longest file of edition 3", full.clone(), 11, 1),
+        refused("the same without its last byte, in edition 3", full[..full.len() - 1].to_vec(), 1, end - 7),
         refused("the same in edition 2", replaced(full.clone(), 3, &[2]), 4, 0),
-        refused("one byte behind it, in edition 3", and(full.clone(), &[0]), 7, 4_299),
-        refused("a 257th wire of edition 3", and(full, &[3, 0, 4, 0, 63, 0, 1]), 7, 4_299),
+        refused("one byte behind it, in edition 3", and(full.clone(), &[0]), 7, end),
+        refused("a wire more in edition 3", and(full, &[3, 0, 4, 0, LAST, 0, 1]), 7, end),
     ]
 }
 

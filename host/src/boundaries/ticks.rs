@@ -1,7 +1,7 @@
 //! The boundaries of 17 (document 02, K6), and which refusals come before it: each file with a wanted saving and the refusal of
 //! the fewest ticks, by hand.
 
-use super::{and, bridge, cut, d, gate, lone, plain, wired, with};
+use super::{and, bridge, cut, d, gate, lone, plain, wired, with, LAST};
 use crate::block::{encode, Block};
 use crate::generate::limits::{largest_gain, largest_measured_gain, most_pairs, most_ticks, most_wires};
 use crate::worked::{delayed_diamond, diamond, U};
@@ -39,11 +39,11 @@ fn wholes() -> Vec<[Wanted; 3]> {
         whole("one gate without activity", encode(&Block { switching: 0, ..plain(1, &[]) }), 0),
         // 4 gates, each 2 x 3U but the last, which has two wires in
         whole("a diamond of plain gates", wired(4, &[(0, 1), (0, 2), (1, 3), (2, 3)]), 30 * U),
-        whole("the largest gain", encode(&largest_gain()), 126_000 * U),
-        whole("the largest gain of edition 3", encode(&largest_measured_gain()), 2 * 4_128_705_000),
-        // steps of width 1 + i and drop 1,000 - 64i - g, of 64 gates: 36,000 - 64 x 168 - 36g each
-        whole("the most pairs", encode(&most_pairs()), (64 * (36_000 - 64 * 168) - 36 * 2_016) * U),
-        whole("the most ticks", encode(&most_ticks()), 9_434_880 * U),
+        whole("the largest gain", encode(&largest_gain()), 398_000 * U),
+        whole("the largest gain of edition 3", encode(&largest_measured_gain()), 2 * 13_041_465_000),
+        // steps of width 1 + i and drop 1,000 - 100i - g, of 100 gates: 36,000 - 100 x 168 - 36g each; all of it twice
+        whole("the most pairs", encode(&most_pairs()), (100 * 19_200 - 36 * 4_950) * (U + 32_766)),
+        whole("the most ticks", encode(&most_ticks()), 29_484_000 * U),
     ]
 }
 
@@ -60,7 +60,7 @@ fn others() -> Vec<[Wanted; 3]> {
         before("a wire to gate n", with(73, &[0, 4]), 4, 70),
         before("equal drops", lone(gate(&[(1, 2), (1, 2)])), 5, 11),
         before("a wire that stood before", and(d(), &[3, 0, 2, 0, 1]), 6, 75),
-        before("a 257th wire", and(full, &[3, 0, 2, 0, 63]), 7, end),
+        before("a wire more", and(full, &[3, 0, 2, 0, LAST]), 7, end),
         before("a loop of two", wired(4, &[(0, 1), (1, 2), (2, 1), (2, 3)]), 8, 1),
         before("a wire too few", cut(70), 9, 2),
         before("the bridge", wired(4, &bridge(0, 1, 2, 3)), 11, 1),

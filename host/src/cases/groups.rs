@@ -1,8 +1,9 @@
 //! Which cases are stored, group after group.
 
+use super::large;
 use super::ticks::MOST_WANTED;
-use super::{Case, MOST_LISTS, MOST_WIRES};
-use crate::block::{encode, Block, MAX_GATES, MAX_WIDTH, MAX_WIRES};
+use super::{Case, MOST_LENT, MOST_LENT_PAIRS, MOST_LISTS, MOST_WIRES};
+use crate::block::{encode, Block, MAX_PAIRS, MAX_WIDTH};
 use crate::boundaries::{self, Boundary};
 use crate::edition::MAX_EDITION;
 use crate::finer::scaled;
@@ -11,7 +12,7 @@ use crate::generate::editions::{WireDelays, ALL_ACTIVITIES, ALL_WIRE_DELAYS};
 use crate::generate::finer::{block_to_scale, small_block_to_scale, FACTORS};
 use crate::generate::ticks::{scattered, uneven_block};
 use crate::generate::ties::{has_ties, tied_block};
-use crate::generate::{self, any_block, bridged_block, Values, Wires, ALL_VALUES};
+use crate::generate::{self, any_block, bridged_block, Values, Wires, ALL_VALUES, MIDDLE_GATES};
 use crate::random::Random;
 use crate::worked::{self, Worked};
 use crate::{damage, exact, search, timing};
@@ -34,11 +35,11 @@ fn of_files(files: impl Iterator<Item = Vec<u8>>) -> impl Iterator<Item = Case> 
     files.enumerate().map(|(i, file)| Case::of(file, i))
 }
 
-fn of_worked(worked: Vec<Worked>) -> impl Iterator<Item = Case> {
+pub fn of_worked(worked: Vec<Worked>) -> impl Iterator<Item = Case> {
     of_files(worked.into_iter().map(|w| w.file))
 }
 
-fn of_boundaries(boundaries: Vec<Boundary>) -> impl Iterator<Item = Case> {
+pub fn of_boundaries(boundaries: Vec<Boundary>) -> impl Iterator<Item = Case> {
     of_files(boundaries.into_iter().map(|b| b.file))
 }
 
@@ -47,9 +48,16 @@ fn short_slices() -> Vec<Case> {
     let bridge = boundaries::all().into_iter().find(|b| b.name == "the bridge, late").expect("a boundary").file;
     let mut cases = Vec::new();
     for file in [encode(&worked::diamond(10)), encode(&worked::diamond(6)), bridge] {
-        for (lent, lent_widths, lent_gains) in
-            [(4, 512, 512), (3, 511, 512), (3, 512, 511), (0, 0, 0), (4, 511, 511), (68, 520, 511), (3, 512, 512)]
-        {
+        let (enough, fewer) = (MAX_PAIRS, MAX_PAIRS - 1);
+        for (lent, lent_widths, lent_gains) in [
+            (4, enough, enough),
+            (3, fewer, enough),
+            (3, enough, fewer),
+            (0, 0, 0),
+            (4, fewer, fewer),
+            (MOST_LENT, MOST_LENT_PAIRS, fewer),
+            (3, enough, enough),
+        ] {
             cases.push(Case { lent, lent_widths, lent_gains, ..Case::of(file.clone(), 1) });
         }
     }
@@ -66,7 +74,12 @@ fn small_blocks(random: &mut Random) -> Vec<Case> {
     (0..150).map(|i| Case::of(encode(&any_block(random, 7)), i)).collect()
 }
 
-fn large_block(random: &mut Random, round: usize) -> Block {
+/// How many gates a middle-sized block has.
+fn middle(random: &mut Random) -> usize {
+    random.between(12, MIDDLE_GATES as u32) as usize
+}
+
+fn middle_block(random: &mut Random, round: usize) -> Block {
     let kind = match round % 10 {
         0 => Wires::Nearly,
         1 => Wires::General,
@@ -74,7 +87,7 @@ fn large_block(random: &mut Random, round: usize) -> Block {
         _ => Wires::SeriesParallel,
     };
     let values = ALL_VALUES[round % 5];
-    let gates = if round % 3 == 0 { 64 } else { 12 + random.below(53) };
+    let gates = if round % 3 == 0 { MIDDLE_GATES } else { middle(random) };
     let most_steps = random.pick(&[1, 2, 4, 8]);
     generate::block(random, kind, values, gates, most_steps)
 }
@@ -140,9 +153,9 @@ fn edition_1() -> Vec<Case> {
     cases.extend(short_slices());
     cases.extend(damaged(encode(&worked::diamond(10))));
     cases.extend(small_blocks(random));
-    cases.extend((0..300).map(|round| Case::of(encode(&large_block(random, round)), round)));
+    cases.extend((0..300).map(|round| Case::of(encode(&middle_block(random, round)), round)));
     cases.extend((0..40).map(|round| Case::of(encode(&searched_block(searched, round, unchanged)), round)));
-    cases.extend((0..40).map(|round| Case::of(encode(&bridged_block(bridged, 64)), round)));
+    cases.extend((0..40).map(|round| Case::of(encode(&bridged_block(bridged, MIDDLE_GATES)), round)));
     cases
 }
 
@@ -168,11 +181,11 @@ fn random_blocks(random: &mut Random, searched: &mut Random, change: Change) -> 
         add(&searched_block(searched, round, change), round);
     }
     for round in 0..100 {
-        let block = large_block(random, round);
+        let block = middle_block(random, round);
         add(&change(random, block, round / 10), round);
     }
     for round in 0..20 {
-        let block = bridged_block(random, 64);
+        let block = bridged_block(random, MIDDLE_GATES);
         add(&change(random, block, round), round);
     }
     cases
@@ -201,13 +214,13 @@ fn edition_3() -> Vec<Case> {
 }
 
 /// A block in an edition in which the order of ties decides. Two of five are so small that the second opinion tries every list,
-/// two that the exhaustive search does, and one has 12 to 64 gates. At most one of five is a chain.
+/// two that the exhaustive search does, and one is middle-sized. At most one of five is a chain.
 fn block_with_ties(random: &mut Random, edition: u8, round: usize) -> Block {
     loop {
         let (gates, most_lists, most_wires) = match round % 5 {
             0 | 1 => (3 + random.below(5), FEW_LISTS, FEW_WIRES),
             2 | 3 => (6 + random.below(7), MOST_LISTS, MOST_WIRES),
-            _ => (12 + random.below(53), u64::MAX, MAX_WIRES),
+            _ => (middle(random), u64::MAX, usize::MAX),
         };
         let block = tied_block(random, edition, gates);
         let fits = search::count_of_lists(&block) <= most_lists && block.wires.len() <= most_wires;
@@ -234,7 +247,7 @@ fn ties() -> Vec<Case> {
 }
 
 /// A block in an edition and an m, such that the block still fits a file in ticks m times as fine. In these, two of five are so
-/// small that the second opinion tries every list, one that the exhaustive search does, and two have 12 to 64 gates.
+/// small that the second opinion tries every list, one that the exhaustive search does, and two are middle-sized.
 fn block_with_factor(random: &mut Random, edition: u8, round: usize) -> (Block, u32) {
     let few = [2, 3, 4, 5, 10];
     let m = if round % 5 < 2 { few[round / 5 % 5] } else { FACTORS[round / 5 % FACTORS.len()] };
@@ -242,7 +255,7 @@ fn block_with_factor(random: &mut Random, edition: u8, round: usize) -> (Block, 
         0 | 1 => small_block_to_scale(random, edition, m, FEW_LISTS, FEW_WIRES),
         2 => small_block_to_scale(random, edition, m, MIDDLE_LISTS, MOST_WIRES),
         _ => {
-            let gates = 12 + random.below(53);
+            let gates = middle(random);
             block_to_scale(random, edition, gates, m, u64::MAX)
         }
     };
@@ -266,13 +279,13 @@ fn finer() -> Vec<Case> {
 }
 
 /// A block in an edition with uneven gains. Two of five are so small that the second opinion tries every list, one that the
-/// exhaustive search does, and two have 12 to 64 gates, one of them steps of up to 4,095 ticks.
+/// exhaustive search does, and two are middle-sized, one of them with steps of up to 4,095 ticks.
 fn block_with_uneven_gains(random: &mut Random, edition: u8, round: usize) -> Block {
     let (least_gates, most_gates, widest, lists, most_wires) = match round % 5 {
         0 | 1 => (2, 5, 4, 3..=FEW_LISTS, FEW_WIRES),
         2 => (2, 8, 9, FEW_LISTS + 1..=MIDDLE_LISTS, MOST_WIRES),
-        3 => (12, MAX_GATES, 20, 3..=u64::MAX, MAX_WIRES),
-        _ => (12, MAX_GATES, MAX_WIDTH, 3..=u64::MAX, MAX_WIRES),
+        3 => (12, MIDDLE_GATES, 20, 3..=u64::MAX, usize::MAX),
+        _ => (12, MIDDLE_GATES, MAX_WIDTH, 3..=u64::MAX, usize::MAX),
     };
     loop {
         let gates = least_gates + random.below(most_gates - least_gates + 1);
@@ -321,5 +334,6 @@ pub fn all() -> Vec<Case> {
     cases.extend(ties());
     cases.extend(finer());
     cases.extend(fewest_ticks());
+    cases.extend(large::all());
     cases
 }

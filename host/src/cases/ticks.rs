@@ -1,6 +1,7 @@
 //! The wanted savings of a case, and the fewest ticks for them (document 02, K6).
 
-use crate::answers::{self, fewest_on, FewestTicks, MAX_PAIRS};
+use crate::answers::{self, fewest_on, FewestTicks};
+use crate::block::MAX_PAIRS;
 use crate::search::Curve;
 
 /// Wanted savings that a record has at most.

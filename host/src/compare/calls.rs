@@ -1,7 +1,7 @@
 //! What the library's calls must return and write, by the reference.
 
-use crate::answers::{self, fewest_on, MAX_PAIRS};
-use crate::block::Refusal;
+use crate::answers::{self, fewest_on};
+use crate::block::{Refusal, MAX_PAIRS};
 use crate::ffi::{Answer, CurveAnswer, TicksAnswer};
 use crate::search::Curve;
 
@@ -40,7 +40,7 @@ pub fn slacks(file: &[u8], lent: usize) -> (Answer, Vec<i32>) {
 }
 
 /// The curve to so many elements each: the answer, and the widths and gains that are written.
-pub fn curve(file: &[u8], lent_widths: usize, lent_gains: usize) -> (CurveAnswer, Vec<u32>, Vec<u32>) {
+pub fn curve(file: &[u8], lent_widths: usize, lent_gains: usize) -> (CurveAnswer, Vec<u32>, Vec<u64>) {
     let number = |number: u64| u32::try_from(number).expect("32 bits");
     match answers::curve(file, lent_widths, lent_gains) {
         Err(Refusal { number, place }) => {
@@ -48,7 +48,7 @@ pub fn curve(file: &[u8], lent_widths: usize, lent_gains: usize) -> (CurveAnswer
         }
         Ok(Curve { start, at_start, pairs }) => {
             let (start, count) = (number(start), pairs.len() as u32);
-            let (widths, gains) = pairs.into_iter().map(|(width, gain)| (number(width), number(gain))).unzip();
+            let (widths, gains) = pairs.into_iter().map(|(width, gain)| (number(width), gain)).unzip();
             (CurveAnswer { number: 0, place: 0, start, pairs: count, at_start }, widths, gains)
         }
     }
@@ -87,9 +87,9 @@ mod tests {
         assert_eq!(slacks(&d, 4), (Answer { number: 0, place: 4, saving: 0 }, vec![3, 3, 5, 3]));
         assert_eq!(slacks(&late, 9).1, [-7, -7, -5, -7]);
         assert_eq!(judge(&d, &[0, 0, 0, 3, 99]), Answer { number: 0, place: 0, saving: 36 * U });
-        let (answer, widths, gains) = curve(&late, 512, 512);
+        let (answer, widths, gains) = curve(&late, MAX_PAIRS, MAX_PAIRS);
         assert_eq!(answer, CurveAnswer { number: 0, place: 0, start: 7, pairs: 3, at_start: 8 * U });
-        assert_eq!((widths, gains), (vec![5, 2, 3], vec![12 * U as u32, 9 * U as u32, 2 * U as u32]));
+        assert_eq!((widths, gains), (vec![5, 2, 3], vec![12 * U, 9 * U, 2 * U]));
         let ticks = [44 * U, 44 * U + 1].map(|wanted| fewest_ticks(&late, wanted));
         assert_eq!(ticks, [3, 4].map(|ticks| TicksAnswer { number: 0, place: 0, ticks }));
     }
@@ -104,8 +104,8 @@ mod tests {
         assert_eq!(judge(&d, &[0, 0, 0]), refused(10, 4));
         assert_eq!(judge(&d, &[0, 6, 0, 9]), refused(13, 1));
         assert_eq!(judge(&d, &[0, 0, 2, 4]), refused(14, 0));
-        let short = CurveAnswer { number: 10, place: 512, ..CurveAnswer::default() };
-        assert_eq!(curve(&late, 512, 511), (short, Vec::new(), Vec::new()));
+        let short = CurveAnswer { number: 10, place: MAX_PAIRS as u32, ..CurveAnswer::default() };
+        assert_eq!(curve(&late, MAX_PAIRS, MAX_PAIRS - 1), (short, Vec::new(), Vec::new()));
         assert_eq!(fewest_ticks(&late, 92 * U + 1), TicksAnswer { number: 17, place: 0, ticks: 0 });
         assert_eq!(fewest_ticks(&late[..20], 0), TicksAnswer { number: 1, place: 18, ticks: 0 });
     }

@@ -4,12 +4,12 @@ use super::calls::curve;
 use super::memory::Memory;
 use super::ticks::file_for_ticks;
 use super::{each_file, every_kind, random_block, same, Asked, Met};
-use crate::answers::MAX_PAIRS;
+use crate::block::MAX_PAIRS;
 use crate::ffi::CurveAnswer;
 use crate::random::Random;
 
 /// The call on a file and two lent slices, for widths and gains.
-pub type Call<'a> = &'a mut dyn FnMut(&[u8], &mut [u32], &mut [u32]) -> CurveAnswer;
+pub type Call<'a> = &'a mut dyn FnMut(&[u8], &mut [u32], &mut [u64]) -> CurveAnswer;
 
 /// Lengths of the two slices: enough, one or the other a little more than that; one of them too short, or both.
 fn lengths(random: &mut Random) -> [(usize, usize); 5] {
@@ -46,7 +46,7 @@ fn compare_file(call: Call, asked: &Asked, random: &mut Random, met: &mut Met) -
 pub fn compare(call: Call, files: usize, seed: u64) -> Result<Met, String> {
     let mut met = Met::default();
     each_file(files, seed, file_for_ticks, |asked, random| compare_file(call, asked, random, &mut met))?;
-    every_kind(&met.editions())?;
+    every_kind(&met.kinds())?;
     every_kind(&[(met.numbers[10], "no slice was too short"), (met.numbers[11], "no file got 11")])?;
     Ok(met)
 }

@@ -2,7 +2,7 @@
 
 use super::calls::judge;
 use super::memory::{any_elements, Memory};
-use super::{any_file, each_file, every_kind, random_block, same, Asked, Met};
+use super::{any_file, each_file, every_kind, random_block, same, Asked, Met, MOST_LENT};
 use crate::answers::well_formed;
 use crate::block::{Block, Gate};
 use crate::exact;
@@ -43,7 +43,7 @@ fn slices(file: &[u8], random: &mut Random) -> Vec<Vec<u32>> {
     let mut slices = vec![Vec::new()];
     match well_formed(file) {
         Err(_) => {
-            let count = random.below(75);
+            let count = random.below(MOST_LENT);
             slices.push(any_elements(random, count));
         }
         Ok(block) => {
@@ -97,7 +97,7 @@ impl Display for Compared {
 pub fn compare(call: Call, files: usize, seed: u64) -> Result<Compared, String> {
     let mut compared = Compared::default();
     each_file(files, seed, any_file, |asked, random| compared.file(call, asked, random))?;
-    every_kind(&compared.met.editions())?;
+    every_kind(&compared.met.kinds())?;
     every_kind(&[
         (compared.met.numbers[10], "no slice was too short"),
         (compared.met.numbers[13], "no list got 13"),

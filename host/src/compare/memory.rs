@@ -20,6 +20,12 @@ impl Element for u32 {
     }
 }
 
+impl Element for u64 {
+    fn any(random: &mut Random) -> u64 {
+        random.next()
+    }
+}
+
 impl Element for i32 {
     fn any(random: &mut Random) -> i32 {
         random.next() as i32
@@ -32,7 +38,7 @@ pub fn any_elements<T: Element>(random: &mut Random, count: usize) -> Vec<T> {
 }
 
 /// Elements on either side of the lent ones.
-const GUARD: usize = 64;
+const GUARD: usize = 50;
 
 /// Elements that are lent, between two guards.
 pub struct Memory<T> {

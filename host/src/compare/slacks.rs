@@ -40,7 +40,7 @@ impl Display for Compared {
 pub fn compare(call: Call, files: usize, seed: u64) -> Result<Compared, String> {
     let mut compared = Compared::default();
     each_file(files, seed, any_file, |asked, random| compared.file(call, asked, random))?;
-    every_kind(&compared.met.editions())?;
+    every_kind(&compared.met.kinds())?;
     every_kind(&[
         (compared.met.numbers[10], "no slice was too short"),
         (compared.late, "no random block that is late was answered"),

@@ -2,11 +2,12 @@
 
 use super::calls::ticks_by;
 use super::{any_file, each_file, every_kind, random_block, same, Asked, Met};
-use crate::answers::{self, MAX_PAIRS};
-use crate::block::{encode, Refusal, MAX_GATES, MAX_TIME, MAX_WIDTH};
+use crate::answers;
+use crate::block::{encode, Refusal, MAX_GATES, MAX_PAIRS, MAX_TIME, MAX_WIDTH};
 use crate::edition::MAX_EDITION;
 use crate::ffi::TicksAnswer;
 use crate::generate::ticks::{scattered, uneven_block};
+use crate::generate::MIDDLE_GATES;
 use crate::random::Random;
 use crate::search::Curve;
 use crate::timing;
@@ -39,7 +40,8 @@ pub fn file_for_ticks(random: &mut Random) -> Vec<u8> {
         return any_file(random);
     }
     let edition = random.between(1, u32::from(MAX_EDITION)) as u8;
-    let gates = 1 + random.below(MAX_GATES);
+    let most_gates = random.pick(&[MAX_GATES, MIDDLE_GATES, MIDDLE_GATES, MIDDLE_GATES, MIDDLE_GATES]);
+    let gates = 1 + random.below(most_gates);
     encode(&uneven_block(random, edition, gates, MAX_WIDTH))
 }
 
@@ -98,7 +100,7 @@ impl Display for Compared {
 pub fn compare(call: Call, files: usize, seed: u64) -> Result<Compared, String> {
     let mut compared = Compared::default();
     each_file(files, seed, file_for_ticks, |asked, random| compared.file(call, asked, random))?;
-    every_kind(&compared.met.editions())?;
+    every_kind(&compared.met.kinds())?;
     every_kind(&[
         (compared.none, "no random file needed no tick"),
         (compared.some, "no random file needed a tick"),

@@ -1,7 +1,7 @@
 //! Random blocks in editions 2 and 3: delays of their wires (document 02, K2) and measured activities of their nets (K3).
 
-use super::set_times;
 use super::ties::has_ties;
+use super::{set_times, MIDDLE_GATES};
 use crate::block::{Block, MAX_WIRE_DELAY};
 use crate::edition::{is_measured, max_activity, MAX_EDITION};
 use crate::random::Random;
@@ -118,13 +118,14 @@ pub fn in_edition(random: &mut Random, block: Block, edition: u8) -> Block {
     with_activities(random, block, activities)
 }
 
-/// How many of some blocks have wire delays above 0, how many have measured activities, and in how many the order of ties
-/// decides.
+/// How many of some blocks have wire delays above 0, how many have measured activities, in how many the order of ties decides, and
+/// how many have more gates than there could be before document 02's K10.
 #[derive(Clone, Copy, Debug, Default)]
 pub struct Counted {
     pub delayed: usize,
     pub measured: usize,
     pub tied: usize,
+    pub large: usize,
 }
 
 impl Counted {
@@ -132,12 +133,14 @@ impl Counted {
         self.delayed += usize::from(block.is_delayed());
         self.measured += usize::from(is_measured(block.edition));
         self.tied += usize::from(has_ties(block));
+        self.large += usize::from(block.gates.len() > MIDDLE_GATES);
     }
 }
 
 impl Display for Counted {
     fn fmt(&self, f: &mut Formatter) -> Result {
-        let Counted { delayed, measured, tied } = self;
-        write!(f, "{delayed} with wire delays, {measured} with measured activities, {tied} with ties")
+        let Counted { delayed, measured, tied, large } = self;
+        write!(f, "{delayed} with wire delays, {measured} with measured activities, {tied} with ties, ")?;
+        write!(f, "{large} of more than {MIDDLE_GATES} gates")
     }
 }

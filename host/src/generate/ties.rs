@@ -4,14 +4,14 @@ use super::bare_block;
 use super::editions::{set_activities, with_wire_delays, WireDelays};
 use crate::block::{Block, Step, Wire};
 use crate::edition::{max_activity, MAX_EDITION};
-use crate::exact::{self, Order};
+use crate::exact;
 use crate::random::Random;
 use std::iter::repeat;
 
 /// Whether the order of ties decides: from gate 0 on, document 01's order before K8, another list is the best. The block has no
 /// loop and no fault at the ends.
 pub fn has_ties(block: &Block) -> bool {
-    exact::best(block) != exact::best_in_order(block, Order::FromGate0)
+    exact::is_tied(block)
 }
 
 /// A network that is being built, and what a tick of each gate is to gain.

@@ -4,6 +4,49 @@ use crate::block::{refuse, Refusal, MAX_DELAY, MAX_DROP, MAX_GATES};
 use crate::block::{MAX_STEPS, MAX_WIDTH, MAX_WIRES, MAX_WIRE_DELAY};
 use crate::edition::{activity, max_switching, wire_length, MAX_EDITION};
 
+/// Words that have a bit for each gate.
+const WORDS: usize = (MAX_GATES - 1) / u64::BITS as usize + 1;
+
+/// A set of gates, a bit each.
+#[derive(Clone, Copy)]
+struct Gates([u64; WORDS]);
+
+impl Gates {
+    const NONE: Gates = Gates([0; WORDS]);
+
+    /// The word of a gate, and its bit there.
+    fn bit(gate: usize) -> (usize, u64) {
+        (gate / u64::BITS as usize, 1 << (gate % u64::BITS as usize))
+    }
+
+    fn has(&self, gate: usize) -> bool {
+        let (word, bit) = Gates::bit(gate);
+        self.0[word] & bit != 0
+    }
+
+    fn add(&mut self, gate: usize) {
+        let (word, bit) = Gates::bit(gate);
+        self.0[word] |= bit;
+    }
+
+    fn add_all(&mut self, other: &Gates) {
+        self.0.iter_mut().zip(other.0).for_each(|(word, more)| *word |= more);
+    }
+
+    fn is_empty(&self) -> bool {
+        self.0 == [0; WORDS]
+    }
+
+    fn for_each(&self, mut action: impl FnMut(usize)) {
+        for (i, mut word) in self.0.into_iter().enumerate() {
+            while word != 0 {
+                action(i * u64::BITS as usize + word.trailing_zeros() as usize);
+                word &= word - 1;
+            }
+        }
+    }
+}
+
 pub struct Netlist {
     edition: u8,
     /// The greatest number for the switching of a net in that edition.
@@ -16,14 +59,13 @@ pub struct Netlist {
     activity: [u32; MAX_GATES],
     /// The steps of gate g are `steps[step_from[g]..step_from[g + 1]]`, each a width and a drop.
     step_from: [u16; MAX_GATES + 1],
-    steps: [(u16, u16); MAX_GATES * MAX_STEPS],
+    steps: Vec<(u16, u16)>,
     /// The length of a wire's body: where it is 4, the wire's delay stands behind its two gates.
     wire_length: usize,
-    pub wires: usize,
-    pub wire: [(u8, u8); MAX_WIRES],
-    pub wire_delay: [u16; MAX_WIRES],
-    /// Bit b of `follows[a]`: there is a wire from a to b.
-    follows: [u64; MAX_GATES],
+    pub wire: Vec<(u8, u8)>,
+    pub wire_delay: Vec<u16>,
+    /// For each gate those that a wire leads to from it.
+    follows: Vec<Gates>,
 }
 
 fn two_bytes(bytes: &[u8]) -> u32 {
@@ -67,12 +109,11 @@ impl Netlist {
             delay: [0; MAX_GATES],
             activity: [0; MAX_GATES],
             step_from: [0; MAX_GATES + 1],
-            steps: [(0, 0); MAX_GATES * MAX_STEPS],
+            steps: Vec::with_capacity(gates * MAX_STEPS),
             wire_length: wire_length(edition),
-            wires: 0,
-            wire: [(0, 0); MAX_WIRES],
-            wire_delay: [0; MAX_WIRES],
-            follows: [0; MAX_GATES],
+            wire: Vec::with_capacity(2 * gates),
+            wire_delay: Vec::with_capacity(2 * gates),
+            follows: vec![Gates::NONE; gates],
         };
         let mut offset = 11;
         for gate in 0..gates {
@@ -89,15 +130,13 @@ impl Netlist {
         let (delay, switching) = (two_bytes(body), two_bytes(&body[2..]));
         let mut out_of_range = delay > MAX_DELAY || switching > self.max_switching;
         let mut falls = true;
-        let mut at = usize::from(self.step_from[gate]);
         let mut before = u32::MAX;
         for step in body[4..].chunks_exact(4) {
             let (width, drop) = (two_bytes(step), two_bytes(&step[2..]));
             out_of_range |= width.wrapping_sub(1) >= MAX_WIDTH || drop.wrapping_sub(1) >= MAX_DROP;
             falls &= drop < before;
             before = drop;
-            self.steps[at] = (width as u16, drop as u16);
-            at += 1;
+            self.steps.push((width as u16, drop as u16));
         }
         if out_of_range {
             return refuse(4, offset);
@@ -107,12 +146,12 @@ impl Netlist {
         }
         self.delay[gate] = delay;
         self.activity[gate] = activity(self.edition, switching);
-        self.step_from[gate + 1] = at as u16;
+        self.step_from[gate + 1] = self.steps.len() as u16;
         Ok(offset + 3 + body.len())
     }
 
     fn read_wire(&mut self, file: &[u8], offset: usize) -> Result<usize, Refusal> {
-        if self.wires == MAX_WIRES {
+        if self.wire.len() == MAX_WIRES {
             return refuse(7, offset);
         }
         let body = body(file, offset, 3, |length| length == self.wire_length)?;
@@ -121,13 +160,12 @@ impl Netlist {
         if from >= self.gates || to >= self.gates || delay > MAX_WIRE_DELAY {
             return refuse(4, offset);
         }
-        if from == to || self.follows[from] >> to & 1 == 1 {
+        if from == to || self.follows[from].has(to) {
             return refuse(6, offset);
         }
-        self.follows[from] |= 1 << to;
-        self.wire[self.wires] = (from as u8, to as u8);
-        self.wire_delay[self.wires] = delay as u16;
-        self.wires += 1;
+        self.follows[from].add(to);
+        self.wire.push((from as u8, to as u8));
+        self.wire_delay.push(delay as u16);
         Ok(offset + 3 + body.len())
     }
 
@@ -138,7 +176,7 @@ impl Netlist {
     /// The input activities of all gates.
     pub fn input_activities(&self) -> [u32; MAX_GATES] {
         let mut sums = [0; MAX_GATES];
-        for &(from, to) in &self.wire[..self.wires] {
+        for &(from, to) in &self.wire {
             sums[usize::from(to)] += self.activity[usize::from(from)];
         }
         sums[0] = self.input;
@@ -150,13 +188,11 @@ impl Netlist {
         if self.has_loop() {
             return refuse(8, self.lowest_on_loop());
         }
-        let mut led_to = 0;
+        let mut led_to = Gates::NONE;
+        self.follows.iter().for_each(|behind| led_to.add_all(behind));
         for gate in 0..self.gates {
-            led_to |= self.follows[gate];
-        }
-        for gate in 0..self.gates {
-            let fault_in = (led_to >> gate & 1 == 1) == (gate == 0);
-            let fault_out = (self.follows[gate] != 0) == (gate == self.gates - 1);
+            let fault_in = led_to.has(gate) == (gate == 0);
+            let fault_out = self.follows[gate].is_empty() != (gate == self.gates - 1);
             if fault_in || fault_out {
                 return refuse(9, gate);
             }
@@ -167,7 +203,7 @@ impl Netlist {
     /// Takes away gates without a wire in as long as there are any.
     fn has_loop(&self) -> bool {
         let mut wires_in = [0u8; MAX_GATES];
-        for &(_, to) in &self.wire[..self.wires] {
+        for &(_, to) in &self.wire {
             wires_in[usize::from(to)] += 1;
         }
         let mut ready = [0u8; MAX_GATES];
@@ -178,29 +214,27 @@ impl Netlist {
         }
         let mut done = 0;
         while done < count {
-            let mut next = self.follows[usize::from(ready[done])];
+            let next = self.follows[usize::from(ready[done])];
             done += 1;
-            while next != 0 {
-                let gate = next.trailing_zeros() as usize;
-                next &= next - 1;
+            next.for_each(|gate| {
                 wires_in[gate] -= 1;
                 if wires_in[gate] == 0 {
                     ready[count] = gate as u8;
                     count += 1;
                 }
-            }
+            });
         }
         done < self.gates
     }
 
     fn lowest_on_loop(&self) -> usize {
-        let mut reaches = self.follows;
+        let mut reaches = self.follows.clone();
         for middle in 0..self.gates {
             let beyond = reaches[middle];
-            for row in reaches.iter_mut().filter(|row| **row >> middle & 1 == 1) {
-                *row |= beyond;
+            for row in reaches.iter_mut().filter(|row| row.has(middle)) {
+                row.add_all(&beyond);
             }
         }
-        (0..self.gates).find(|&g| reaches[g] >> g & 1 == 1).unwrap_or(0)
+        (0..self.gates).find(|&g| reaches[g].has(g)).unwrap_or(0)
     }
 }

@@ -2,7 +2,7 @@
 
 use super::lists::{List, Store, NONE};
 use super::netlist::Netlist;
-use crate::block::{refuse, Refusal, MAX_GATES};
+use crate::block::{refuse, Refusal, MAX_GATES, MAX_STEPS};
 
 #[derive(Clone, Copy)]
 enum Kind {
@@ -27,8 +27,7 @@ const MAX_NODES: usize = 2 * MAX_GATES + 2;
 
 pub struct Tree<'a> {
     netlist: &'a Netlist,
-    nodes: [Node; MAX_NODES],
-    count: usize,
+    nodes: Vec<Node>,
     of_gate: [List; MAX_GATES],
     delay_of_gate: [u32; MAX_GATES],
     store: Store,
@@ -41,8 +40,9 @@ struct Left {
     wires_out: [u8; MAX_GATES],
     before: [u8; MAX_GATES],
     behind: [u8; MAX_GATES],
-    /// The node of the wire from a to b, plus 1; 0 where there is none.
-    node: [[u16; MAX_GATES]; MAX_GATES],
+    gates: usize,
+    /// The node of the wire from a to b, plus 1, or 0 where there is none, at a times the gates plus b.
+    node: Vec<u16>,
 }
 
 impl Left {
@@ -52,17 +52,22 @@ impl Left {
             wires_out: [0; MAX_GATES],
             before: [0; MAX_GATES],
             behind: [0; MAX_GATES],
-            node: [[0; MAX_GATES]; MAX_GATES],
+            gates: netlist.gates,
+            node: vec![0; netlist.gates * netlist.gates],
         };
-        for (i, &(from, to)) in netlist.wire[..netlist.wires].iter().enumerate() {
+        for (i, &(from, to)) in netlist.wire.iter().enumerate() {
             let (a, b) = (usize::from(from), usize::from(to));
             left.wires_out[a] += 1;
             left.wires_in[b] += 1;
             left.behind[a] ^= to;
             left.before[b] ^= from;
-            left.node[a][b] = if netlist.wire_delay[i] == 0 { 1 } else { (MAX_NODES + i + 1) as u16 };
+            *left.node(a, b) = if netlist.wire_delay[i] == 0 { 1 } else { (MAX_NODES + i + 1) as u16 };
         }
         left
+    }
+
+    fn node(&mut self, a: usize, b: usize) -> &mut u16 {
+        &mut self.node[a * self.gates + b]
     }
 
     fn can_go(&self, gate: usize) -> bool {
@@ -71,7 +76,7 @@ impl Left {
 }
 
 /// Gives a node its ticks; a wire with a delay has no place for them and needs none.
-fn give(ticks: &mut [u64; MAX_NODES], number: u16, given: u64) {
+fn give(ticks: &mut [u64], number: u16, given: u64) {
     if let Some(node) = ticks.get_mut(usize::from(number)) {
         *node = given;
     }
@@ -83,13 +88,13 @@ impl Tree<'_> {
         let n = netlist.gates;
         let mut tree = Tree {
             netlist,
-            nodes: [WIRE; MAX_NODES],
-            count: 1,
+            nodes: Vec::with_capacity(2 * n + 2),
             of_gate: [NONE; MAX_GATES],
             delay_of_gate: netlist.delay,
-            store: Store::with_capacity(8 * MAX_GATES + 1_024),
+            store: Store::with_capacity(2 * MAX_STEPS * n + 1_024),
             at_start: 0,
         };
+        tree.nodes.push(WIRE);
         let activities = netlist.input_activities();
         for gate in 0..n {
             tree.of_gate[gate] = tree.store.of_gate(gate, netlist.steps(gate), activities[gate]);
@@ -126,30 +131,30 @@ impl Tree<'_> {
             let lowest = (1..last).find(|&g| left.wires_in[g] > 0);
             return refuse(11, lowest.expect("a gate between the first and the last"));
         }
-        Ok(left.node[0][last] - 1)
+        Ok(*left.node(0, last) - 1)
     }
 
     /// Joins the two wires of a gate, and the joined wire with the one beside it.
     fn take_away(&mut self, gate: usize, left: &mut Left) {
         let (a, b) = (usize::from(left.before[gate]), usize::from(left.behind[gate]));
-        let joined = self.series(left.node[a][gate] - 1, gate, left.node[gate][b] - 1);
+        let joined = self.series(*left.node(a, gate) - 1, gate, *left.node(gate, b) - 1);
         left.behind[a] ^= gate as u8;
         left.before[b] ^= gate as u8;
-        if left.node[a][b] == 0 {
-            left.node[a][b] = joined + 1;
+        let beside = *left.node(a, b);
+        if beside == 0 {
+            *left.node(a, b) = joined + 1;
             left.behind[a] ^= b as u8;
             left.before[b] ^= a as u8;
         } else {
-            left.node[a][b] = self.parallel(left.node[a][b] - 1, joined) + 1;
+            *left.node(a, b) = self.parallel(beside - 1, joined) + 1;
             left.wires_out[a] -= 1;
             left.wires_in[b] -= 1;
         }
     }
 
     fn add(&mut self, node: Node) -> u16 {
-        self.nodes[self.count] = node;
-        self.count += 1;
-        (self.count - 1) as u16
+        self.nodes.push(node);
+        (self.nodes.len() - 1) as u16
     }
 
     /// The node of this number.
@@ -181,13 +186,13 @@ impl Tree<'_> {
 
     /// The longest path with no increase.
     pub fn delay(&self) -> u32 {
-        self.nodes[self.count - 1].delay
+        self.nodes[self.nodes.len() - 1].delay
     }
 
     /// Follows the reduction backwards: hands the ticks down to the gates. Returns the saving.
     pub fn give_back(&self, spare: u64, increases: &mut [u32; MAX_GATES]) -> u64 {
-        let mut ticks = [0u64; MAX_NODES];
-        let root = self.count - 1;
+        let mut ticks = vec![0; self.nodes.len()];
+        let root = self.nodes.len() - 1;
         ticks[root] = spare;
         let mut saving = self.at_start;
         let mut left = spare;
@@ -196,7 +201,7 @@ impl Tree<'_> {
             saving += taken * pair.gain();
             left -= taken;
         }
-        for node in (0..self.count).rev() {
+        for node in (0..self.nodes.len()).rev() {
             match self.nodes[node].kind {
                 Kind::Wire => {}
                 Kind::Parallel(one, other, for_one, for_other) => {

@@ -4,6 +4,7 @@
 use super::Expected::*;
 use super::{drawn, worked, Drawn, Worked, U};
 use crate::block::encode;
+use crate::generate::MIDDLE_GATES;
 
 /// A gate of delay 1 without a step.
 const PLAIN: Drawn = (1, &[]);
@@ -13,35 +14,49 @@ fn block(deadline: u32, gates: &[Drawn], wires: &[(usize, usize)]) -> Vec<u8> {
     encode(&drawn(deadline, gates, wires))
 }
 
-/// 2 ticks for each of the gates 0 to 31, one for gate 32.
-const FIRST_GATES: [u32; 64] = {
-    let mut increases = [0; 64];
+/// Of an even number of gates 2 ticks for each of the first half, one for the next: one tick more than there are gates.
+pub const fn to_first_half<const GATES: usize>() -> [u32; GATES] {
+    let mut increases = [0; GATES];
     let mut gate = 0;
-    while gate < 32 {
+    while gate < GATES / 2 {
         increases[gate] = 2;
         gate += 1;
     }
-    increases[32] = 1;
+    increases[gate] = 1;
     increases
-};
+}
+
+const FIRST_GATES: [u32; MIDDLE_GATES] = to_first_half();
+
+/// Equal gates of delay 1 that gain U for each of 2 ticks, in series in this order, with one tick more to spare than there are
+/// gates.
+pub fn equal_gates(order: &[usize]) -> Vec<u8> {
+    let wires: Vec<(usize, usize)> = order.windows(2).map(|ends| (ends[0], ends[1])).collect();
+    block(2 * order.len() as u32 + 1, &vec![(1, &[(2, 1)][..]); order.len()], &wires)
+}
+
+/// Numbers of gates in a chain, those between the first and the last backwards.
+pub fn backwards(gates: usize) -> Vec<usize> {
+    [0].into_iter().chain((1..gates - 1).rev()).chain([gates - 1]).collect()
+}
 
 /// Equal gates in series: the ticks go to the lowest numbers, wherever these stand in the chain.
 fn chains() -> Vec<Worked> {
-    let (equal, narrow): (Drawn, Drawn) = ((1, &[(2, 3)]), (1, &[(2, 1)]));
-    let chain_of_64 = |order: Vec<usize>| {
-        let wires: Vec<(usize, usize)> = order.windows(2).map(|ends| (ends[0], ends[1])).collect();
-        block(64 + 65, &[narrow; 64], &wires)
-    };
-    let along = (0..64).collect();
-    let against = [0].into_iter().chain((1..63).rev()).chain([63]).collect();
+    let equal: Drawn = (1, &[(2, 3)]);
+    let along: Vec<usize> = (0..MIDDLE_GATES).collect();
+    let saving = (MIDDLE_GATES as u64 + 1) * U;
     vec![
         worked(
             "three equal gates in series, the highest number in front",
             block(8, &[PLAIN, equal, equal, equal, PLAIN], &[(0, 3), (3, 1), (1, 2), (2, 4)]),
             vec![Best(&[0, 2, 1, 0, 0], 9 * U)],
         ),
-        worked("64 equal gates in series", chain_of_64(along), vec![Best(&FIRST_GATES, 65 * U)]),
-        worked("64 equal gates in series, numbered backwards", chain_of_64(against), vec![Best(&FIRST_GATES, 65 * U)]),
+        worked("equal gates in series", equal_gates(&along), vec![Best(&FIRST_GATES, saving)]),
+        worked(
+            "equal gates in series, numbered backwards",
+            equal_gates(&backwards(MIDDLE_GATES)),
+            vec![Best(&FIRST_GATES, saving)],
+        ),
     ]
 }
 

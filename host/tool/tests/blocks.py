@@ -4,8 +4,10 @@ import importlib
 import sys
 import unittest
 from dataclasses import replace
+from itertools import permutations
 from pathlib import Path
 
+from netlist import MAX_DROP, MAX_GATES, MAX_STEPS, Gate, Netlist, Step, Wire, encode
 from words import GENERAL, refusal_in_words
 
 HOST_PYTHON = Path(__file__).resolve().parents[2] / "python"
@@ -61,8 +63,27 @@ def diamond(deadline=10):
 
 
 BRIDGE = [(0, 1), (0, 2), (1, 2), (1, 3), (2, 3)]
-# 272 wires between 17 gates
-MANY_WIRES = [(a, b) for a in range(17) for b in range(17) if a != b]
+# gates with more wires between them than a file can have
+MANY_GATES = 26
+MANY_WIRES = list(permutations(range(MANY_GATES), 2))
+
+
+def longest_curve():
+    """A chain with as many pairs as there can be, and these: the ticks of each step of each gate gain something else."""
+    activities = range(65_535, 65_535 - MAX_GATES, -1)
+    steps = tuple(Step(1, MAX_DROP - 100 * k) for k in range(MAX_STEPS))
+    gates = tuple(Gate(1, activity, steps) for activity in (*activities[1:], 0))
+    wires = tuple(Wire(gate, gate + 1) for gate in range(MAX_GATES - 1))
+    block = Netlist(3, 0, 65_535, activities[0], gates, wires)
+    return encode(block), [(1, step.drop * activity) for step in steps for activity in activities]
+
+
+def largest_gain():
+    """As many wires into the last gate as there can be, which alone can be slowed."""
+    last = MAX_GATES - 1
+    between = [wire for gate in range(1, last) for wire in (Wire(0, gate), Wire(gate, last))]
+    gates = (*[Gate(1, 65_535)] * last, Gate(1, 65_535, (Step(5, MAX_DROP),)))
+    return encode(Netlist(3, 0, 6, 65_535, gates, (*between, Wire(0, last))))
 
 
 def with_names(netlist, names):

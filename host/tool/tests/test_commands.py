@@ -12,6 +12,8 @@ import xml.etree.ElementTree as ElementTree
 from pathlib import Path
 
 from building import ROOT
+from netlist import MAX_GATES
+from tests.blocks import largest_gain
 from tests.scripts import BRIDGE, DIAMOND, LATE, ScriptTest
 
 U = 32_768
@@ -104,6 +106,10 @@ class Curve(CommandTest):
 
     def test_of_a_late_block(self):
         self.assertEqual(self.json_of("curve", self.write("l", LATE))["spare"], -1)
+
+    def test_a_gain_that_32_bits_do_not_hold(self):
+        pair = {"width": 5, "gain": 13_041_465_000, "ticks": 5, "saving": 65_207_325_000}
+        self.assertEqual(self.json_of("curve", self.write("wide", largest_gain()))["pairs"], [pair])
 
     def test_of_a_block_that_cannot_be_slowed(self):
         lone = self.write("x", "block arrival 0 deadline 8 p 128\ngate 0 delay 5 p 128\n")
@@ -293,8 +299,9 @@ class Conversion(CommandTest):
             self.held(self.honduvi("to-text", block), 0, "".join(line + "\n" for line in lines if line))
 
     def test_generated_descriptions_are_written_as_they_were_read(self):
-        for words in (["1", "64", "8"], ["2", "9", "3", "50"], ["3", "30", "1", "4095", "65535"]):
-            generated = subprocess.run([ROOT / "target/host/generate-block", *words], capture_output=True, check=True).stdout
+        for words in ("1 64 8", f"1 {MAX_GATES} 8", "2 9 3 50", f"2 {MAX_GATES} 3 50", "3 30 1 4095 65535"):
+            command = [ROOT / "target/host/generate-block", *words.split()]
+            generated = subprocess.run(command, capture_output=True, check=True).stdout
             self.write("g.text", generated)
             self.honduvi("to-block", "g.text", "-o", "g.block")
             self.held(self.honduvi("to-text", "g.block"), 0, generated.decode())

@@ -4,8 +4,8 @@ import random
 import unittest
 
 from description import MAX_NAME, Fault, is_description, read, write
-from netlist import MAX_EDITION, Gate, Netlist, Step, Wire, decode, encode, has_wire_delays, max_switching
-from tests.blocks import with_names
+from netlist import MAX_EDITION, MAX_GATES, MAX_WIRES, Gate, Netlist, Step, Wire, decode, encode, has_wire_delays, max_switching
+from tests.blocks import MANY_GATES, MANY_WIRES, with_names
 
 BLOCK = "block arrival 0 deadline 9 p 128"
 TWO = f"{BLOCK}\ngate 0 delay 1 p 0\ngate 1 delay 1 p 0\n"
@@ -24,9 +24,14 @@ def said(text):
     return read(text.encode())
 
 
+def with_gates(count):
+    """A block line and so many gates."""
+    return BLOCK + "".join(f"\ngate {gate} delay 1 p 0" for gate in range(count))
+
+
 def any_netlist(draw):
     """A netlist within the limits of its edition, its network of any kind."""
-    edition, count = draw.randint(1, MAX_EDITION), draw.choice([1, 2, 5, 64])
+    edition, count = draw.randint(1, MAX_EDITION), draw.choice([1, 2, 5, 65, MAX_GATES])
     gates = []
     for number in range(count):
         drops = sorted(draw.sample(range(1, 1_001), draw.randint(0, 8)), reverse=True)
@@ -35,7 +40,8 @@ def any_netlist(draw):
         gates.append(Gate(draw.randint(0, 4_095), draw.randint(0, max_switching(edition)), steps, name))
     pairs = [(a, b) for a in range(count) for b in range(count) if a != b]
     delays = range(4_096) if has_wire_delays(edition) else [0]
-    wires = tuple(Wire(*pair, draw.choice(delays)) for pair in draw.sample(pairs, min(len(pairs), draw.choice([0, 3, 256]))))
+    wanted = min(len(pairs), draw.choice([0, 3, 257, MAX_WIRES]))
+    wires = tuple(Wire(*pair, draw.choice(delays)) for pair in draw.sample(pairs, wanted))
     times = draw.randint(0, 65_535), draw.randint(0, 65_535)
     return Netlist(edition, *times, draw.randint(0, max_switching(edition)), tuple(gates), wires)
 
@@ -126,7 +132,7 @@ class Faults(unittest.TestCase):
                 (f"{BLOCK}\ngate 0 delay 1 p 257", "2: p 257 is not 0 to 256"),
                 (f"{TWO}wires 0-1\ngate 2 delay 1 p 0", "5: gates must come before wires"),
                 (f"{TWO}wires # none yet\ngate 2 delay 1 p 0", "5: gates must come before wires"),
-                (BLOCK + "".join(f"\ngate {g} delay 1 p 0" for g in range(65)), "66: more than 64 gates"),
+                (with_gates(MAX_GATES + 1), "202: more than 200 gates"),
             ]
         )
 
@@ -181,10 +187,9 @@ class Faults(unittest.TestCase):
                 ),
             ]
         )
-        gates = BLOCK + "".join(f"\ngate {g} delay 1 p 0" for g in range(18))
-        pairs = [f"{a}-{b}" for a in range(18) for b in range(18) if a != b]
-        self.assertEqual(len(said(f"{gates}\nwires {' '.join(pairs[:256])}").wires), 256)
-        self.held([(f"{gates}\nwires {' '.join(pairs[:257])}", "20: more than 256 wires")])
+        pairs = [f"{a}-{b}" for a, b in MANY_WIRES]
+        self.assertEqual(len(said(f"{with_gates(MANY_GATES)}\nwires {' '.join(pairs[:MAX_WIRES])}").wires), 600)
+        self.held([(f"{with_gates(MANY_GATES)}\nwires {' '.join(pairs[: MAX_WIRES + 1])}", "28: more than 600 wires")])
 
     def test_of_editions_and_activities(self):
         block = "block arrival 0 deadline 9"

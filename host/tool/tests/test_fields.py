@@ -2,8 +2,8 @@
 
 import unittest
 
-from netlist import decode
-from tests.blocks import MANY_WIRES, RefusalTest, a_field, diamond, gate, head, network, wire, with_names
+from netlist import MAX_BYTES, MAX_GATES, MAX_WIRES, decode
+from tests.blocks import MANY_GATES, MANY_WIRES, RefusalTest, a_field, diamond, gate, head, network, wire, with_names
 
 
 class Missing(RefusalTest):
@@ -83,18 +83,19 @@ class Ranges(RefusalTest):
         front = "the block field at byte 0: "
         for edition in (0, 4, 255):
             self.refused(head(1, edition) + gate(1, 0), 4, 0, f"{front}edition {edition} is out of its range, 1 to 3")
-        for gates in (0, 65, 255):
-            self.refused(head(gates) + gate(1, 0) * gates, 4, 0, f"{front}gate count {gates} is out of its range, 1 to 64")
+        for gates in (0, MAX_GATES + 1, 255):
+            self.refused(head(gates) + gate(1, 0) * gates, 4, 0, f"{front}gate count {gates} is out of its range, 1 to 200")
         for edition in (1, 2):
             file = head(1, edition, switching=257) + gate(1, 0)
             self.refused(file, 4, 0, f"{front}p 257 is out of its range, 0 to 256")
 
     def test_first_number_at_fault(self):
-        self.refused(head(65, 4, switching=257), 4, 0, "the block field at byte 0: edition 4 is out of its range, 1 to 3")
-        self.refused(head(65, 1, switching=257), 4, 0, "the block field at byte 0: gate count 65 is out of its range, 1 to 64")
+        front = "the block field at byte 0: "
+        self.refused(head(201, 4, switching=257), 4, 0, f"{front}edition 4 is out of its range, 1 to 3")
+        self.refused(head(201, 1, switching=257), 4, 0, f"{front}gate count 201 is out of its range, 1 to 200")
 
     def test_numbers_at_their_limits(self):
-        self.general(head(64, switching=256), 4, 0)
+        self.general(head(MAX_GATES, switching=256), 4, 0)
         self.general(head(1, 3, switching=65535), 4, 0)
         self.general(head(1, 3) + gate(4095, 65535, 4095, 1000, 1, 1), 4, 11)
         self.general(head(2, 2) + gate(1, 1) * 2 + wire(0, 1, 4095), 4, 25)
@@ -143,21 +144,21 @@ class DropsAndWires(RefusalTest):
         line = "the 2nd wire at byte 32: gate 0 -> gate 1 stood before, whatever their delays, as the 1st wire at byte 25"
         self.refused(file, 6, 32, line)
 
-    def test_257th_wire(self):
-        file = network(17, *MANY_WIRES[:256])
-        at = 11 + 17 * 7 + 256 * 5
-        one = f"1 byte follows the 256th wire, from byte {at} on; a file has at most 256 wires"
+    def test_601st_wire(self):
+        file = network(MANY_GATES, *MANY_WIRES[:MAX_WIRES])
+        at = 11 + 26 * 7 + 600 * 5
+        one = f"1 byte follows the 600th wire, from byte {at} on; a file has at most 600 wires"
         self.refused(file + b"\3", 7, at, one)
         self.refused(file + wire(0, 1), 7, at, one.replace("1 byte follows", "5 bytes follow"))
-        read = file.ljust(8_192, b"\3")
-        self.refused(read, 7, at, one.replace("1 byte follows", f"{8_192 - at} bytes or more follow"))
+        read = file.ljust(MAX_BYTES, b"\3")
+        self.refused(read, 7, at, one.replace("1 byte follows", f"{16_384 - at} bytes or more follow"))
         self.general(file, 7, at)
         self.general(file[:-5] + wire(0, 1), 7, at - 5)
 
     def test_ordinals(self):
         for count, said in [(2, "2nd"), (3, "3rd"), (11, "11th"), (12, "12th"), (13, "13th"), (21, "21st"), (22, "22nd")]:
-            file = network(17, *MANY_WIRES[: count - 1], (0, 0))
-            at = 130 + 5 * (count - 1)
+            file = network(MANY_GATES, *MANY_WIRES[: count - 1], (0, 0))
+            at = 11 + 26 * 7 + 5 * (count - 1)
             self.refused(file, 6, at, f"the {said} wire at byte {at}: it joins gate 0 to itself")
 
 
@@ -179,7 +180,7 @@ class General(RefusalTest):
                 self.general(diamond(), number, place)
 
     def test_behind_a_block_field_that_says_nothing(self):
-        for body in (b"", b"\1", b"\1\1" + bytes(5), bytes([4, 1]) + bytes(6), bytes([1, 65]) + bytes(6), bytes(9)):
+        for body in (b"", b"\1", b"\1\1" + bytes(5), bytes([4, 1]) + bytes(6), bytes([1, 201]) + bytes(6), bytes(9)):
             file = a_field(1, body)
             for number in range(1, 8):
                 for behind in (b"", b"\1", gate(9999, 1), wire(9, 9)):

@@ -280,25 +280,26 @@ class Faults(Checks):
         self.assertEqual(self.refused(one_and(outputs={"y": ["0"]})), "no output depends on an input")
         self.assertEqual(self.refused(one_and(outputs={"y": [2]})), "no cell lies on a path from an input to an output")
 
-    def test_at_most_64_gates(self):
+    def test_at_most_200_gates(self):
         def chain(count):
             cells = {f"u{i}": inverter(i, i + 1) for i in range(count)}
             return design({"a": [0]}, {"y": [count]}, cells)
 
-        self.assertEqual(len(imported(chain(61)).netlist.gates), 64)
-        self.assertRegex(self.refused(chain(62)), r"^the block would have 65 gates \(62 cells, 1 input bits, 2 ends.* 64 gates")
+        self.assertEqual(len(imported(chain(197)).netlist.gates), 200)
+        size = r"201 gates \(198 cells, 1 input bits, 2 ends"
+        self.assertRegex(self.refused(chain(198)), rf"^the block would have {size}.* 200 gates and 600 wires$")
 
-    def test_at_most_256_wires(self):
+    def test_at_most_600_wires(self):
         def dense(pins):
-            """16 input bits, 16 cells that read 14 of them each, and the last so many."""
-            bits = list(range(16))
-            reads = [(bits[i:] + bits[:i])[: 14 if i < 15 else pins] for i in range(16)]
-            cells = {f"u{i}": cell("AND", {"A": reads[i]}, {"Y": 100 + i}) for i in range(16)}
-            return design({"a": bits}, {"y": list(range(100, 116))}, cells)
+            """24 input bits, 24 cells that read 23 of them each, and the last so many."""
+            bits = list(range(24))
+            reads = [(bits[i:] + bits[:i])[: 23 if i < 23 else pins] for i in range(24)]
+            cells = {f"u{i}": cell("AND", {"A": reads[i]}, {"Y": 100 + i}) for i in range(24)}
+            return design({"a": bits}, {"y": list(range(100, 124))}, cells)
 
-        # 16 to the input bits, 15 times 14, the last cell's, 16 to the join
-        self.assertEqual(len(imported(dense(14)).netlist.wires), 256)
-        self.assertRegex(self.refused(dense(15)), "34 gates .* and 257 wires; it can have 64 gates and 256 wires")
+        # 24 to the input bits, 23 times 23, the last cell's, 24 to the join
+        self.assertEqual(len(imported(dense(23)).netlist.wires), 600)
+        self.assertRegex(self.refused(dense(24)), "50 gates .* and 601 wires; it can have 200 gates and 600 wires")
 
     def test_times(self):
         for options in ({"arrival": -1}, {"arrival": 65536}, {"deadline": 65536}, {"deadline": -1}, {"deadline": 1.5}):

@@ -8,12 +8,16 @@ import subprocess
 import sys
 import tempfile
 import unittest
+from ctypes import c_int32, c_uint8, c_uint32, c_uint64
 
+import netlist as tool_limits
 from building import ROOT
-from netlist import Gate, Netlist, Step, Wire, decode, encode
+from netlist import MAX_GATES, MAX_PAIRS, MAX_STEPS, Gate, Netlist, Step, Wire, decode, encode
+from tests.blocks import from_host_python, largest_gain, longest_curve
 from timing import longest_path, times
 
 sys.path.append(str(ROOT / "host" / "python"))
+import honduvi  # noqa: E402
 from honduvi import Library, Refused, default_path  # noqa: E402
 
 U = 32_768
@@ -23,7 +27,7 @@ EXAMPLES = [path.read_bytes() for path in sorted((ROOT / "examples").glob("*.blo
 
 def any_network(draw):
     """A netlist of edition 2 without loops and with right ends, of any shape."""
-    count = draw.choice([1, 2, 3, 8, 20, 64])
+    count = draw.choice([1, 2, 3, 8, 20, 65, MAX_GATES])
     pairs = set()
     for gate in range(1, count):
         pairs.add((draw.randrange(gate), gate))
@@ -70,6 +74,50 @@ class Calls(unittest.TestCase):
             self.assertRaises(ValueError, self.library.judge, D, [0, 0, 0, increase])
         for wanted in (-1, 2**64):
             self.assertRaises(ValueError, self.library.fewest_ticks, D, wanted)
+
+
+class Limits(unittest.TestCase):
+    """Blocks of as many gates as there can be (document 02, K10)."""
+
+    def setUp(self):
+        self.library = Library()
+
+    def test_the_modules_have_the_same(self):
+        limits = from_host_python("limits")
+        for name in ("MAX_GATES", "MAX_WIRES", "MAX_STEPS", "MAX_PAIRS", "MAX_DELAY", "MAX_WIDTH", "MAX_DROP"):
+            self.assertEqual(getattr(limits, name), getattr(tool_limits, name), name)
+        self.assertEqual((honduvi.MAX_GATES, honduvi.MAX_PAIRS), (MAX_GATES, MAX_PAIRS))
+
+    def test_as_many_pairs_as_there_can_be(self):
+        file, pairs = longest_curve()
+        self.assertEqual(len(pairs), 1_600)
+        self.assertEqual(self.library.curve(file), (MAX_GATES, 0, pairs))
+        whole = sum(gain for _, gain in pairs)
+        self.assertEqual(self.library.best_increases(file), (whole, [MAX_STEPS] * MAX_GATES))
+        self.assertEqual(self.library.judge(file, [MAX_STEPS] * MAX_GATES), whole)
+        self.assertEqual(self.library.slacks(file), [65_535 - MAX_GATES] * MAX_GATES)
+        self.assertEqual([self.library.fewest_ticks(file, wanted) for wanted in (pairs[0][1] + 1, whole)], [2, 1_600])
+
+    def test_the_largest_gain(self):
+        file, gain = largest_gain(), 13_041_465_000
+        self.assertEqual(self.library.curve(file), (3, 0, [(5, gain)]))
+        self.assertEqual(self.library.best_increases(file), (3 * gain, [0] * (MAX_GATES - 1) + [3]))
+        self.assertEqual([self.library.fewest_ticks(file, gain + more) for more in (0, 1)], [1, 2])
+
+    def lent(self, name, file, *slices):
+        """Number and place of a call with these slices lent."""
+        arguments = [argument for lent in slices for argument in (lent, len(lent))]
+        answer = getattr(self.library._library, f"honduvi_{name}")(file, len(file), *arguments)
+        return answer.number, answer.place
+
+    def test_slices_of_just_enough_elements_and_of_one_too_few(self):
+        file, _ = longest_curve()
+        for name, element, needed in (("best_increases", c_uint8, 800), ("slacks", c_int32, 200), ("judge", c_uint32, 200)):
+            self.assertEqual(self.lent(name, file, (element * needed)())[0], 0)
+            self.assertEqual(self.lent(name, file, (element * (needed - 1))()), (10, needed))
+        for widths, gains in ((1_599, 1_600), (1_600, 1_599)):
+            self.assertEqual(self.lent("curve", file, (c_uint32 * widths)(), (c_uint64 * gains)()), (10, 1_600))
+        self.assertEqual(self.lent("curve", file, (c_uint32 * 1_600)(), (c_uint64 * 1_600)())[0], 0)
 
 
 class Handling(unittest.TestCase):

@@ -8,7 +8,7 @@ from pathlib import Path
 
 from block_picture import block_picture
 from curve_picture import curve_picture
-from netlist import Gate, Netlist, Step, Wire, decode
+from netlist import MAX_DELAY, MAX_DROP, MAX_GATES, MAX_PAIRS, MAX_TIME, MAX_WIDTH, Gate, Netlist, Step, Wire, decode
 from tests.blocks import with_names
 from timing import times
 
@@ -115,11 +115,18 @@ def uneven():
     return Netlist(2, 0, 13_000, 128, gates, wires)
 
 
+def longest():
+    """The longest path that there can be, which arrives as late as can be and misses the earliest deadline."""
+    wires = tuple(Wire(gate, gate + 1, MAX_DELAY) for gate in range(MAX_GATES - 1))
+    return Netlist(2, MAX_TIME, 0, 128, (Gate(MAX_DELAY, 128),) * MAX_GATES, wires)
+
+
 def block_pictures():
     """Pictures of blocks of every kind, with what they are."""
     large, one = example("large"), Netlist(1, 3, 12, 128, (Gate(4, 128, (Step(5, 6),), "only"),))
     far_late = Netlist(1, 60_000, 10, 128, large.gates, large.wires)
     near = Netlist(1, 0, 1, 128, large.gates, large.wires)
+    most_gates = example("front-end")
     cases = [
         ("one gate", one, [5]),
         ("one gate without time", Netlist(1, 3, 3, 128, (Gate(0, 128),)), None),
@@ -134,20 +141,25 @@ def block_pictures():
         ("large, increased", with_long_names(large), random_increases(large, 1)),
         ("large, late by far", far_late, None),
         ("large, deadline near arrival", near, None),
+        ("as many gates as there can be", most_gates, None),
+        ("as many gates as there can be, increased", with_long_names(most_gates), random_increases(most_gates, 2)),
+        ("as late as can be", longest(), None),
+        ("as late as can be, zeros given", with_long_names(longest()), [0] * MAX_GATES),
     ]
     return [(title, block_picture(title, block, increases)) for title, block, increases in cases]
 
 
 def curve_pictures():
     draw = random.Random(2)
-    gains = sorted((draw.randrange(1, 63 * 65_535 * 1000) for _ in range(512)), reverse=True)
+    gains = sorted((draw.randrange(1, (MAX_GATES - 1) * 65_535 * MAX_DROP) for _ in range(MAX_PAIRS)), reverse=True)
     cases = [(f"diamond {spare}", 7, 8 * UNIT, DIAMOND_PAIRS, spare) for spare in (-65_535, -1, 0, 1, 3, 10, 15, 41, 65_528)]
     cases += [
         ("no pairs", 7, 4 * UNIT, [], 3),
         ("no pairs, far", 7, 4 * UNIT, [], 65_535),
         ("nothing", 0, 0, [], 0),
-        ("longest", 65_535, 10**12, [(4095, gain) for gain in gains], 65_535),
-        ("long", 65_535, 1, [(draw.randrange(1, 4096), gain) for gain in gains], -3),
+        ("longest", 1_633_905, 4 * 10**14, [(MAX_WIDTH, gain) for gain in gains], 65_535),
+        ("longest, as late as can be", 1_633_905, 4 * 10**14, [(MAX_WIDTH, gain) for gain in gains], -1_699_440),
+        ("long", 65_535, 1, [(draw.randrange(1, MAX_WIDTH + 1), gain) for gain in gains], -3),
         ("a label at the right edge", 7, 0, [(1_818_182, 9)], 5),
         ("a few " * 40, 700, 123_456, [(3 + i % 4, (40 - 2 * i) * 1000) for i in range(20)], 30),
     ]
@@ -176,21 +188,22 @@ class Layout(unittest.TestCase):
 
         self.each(judge)
 
+    def apart(self, box, others):
+        self.assertEqual([other for other in others if box.meets(other)], [], f"{box} meets them")
+
     def test_texts_do_not_overlap(self):
         def judge(_, root):
             boxes = texts(root)
             for i, box in enumerate(boxes):
-                for other in boxes[:i]:
-                    self.assertFalse(box.meets(other), f"{box} meets {other}")
+                self.apart(box, boxes[:i])
 
         self.each(judge)
 
     def test_bars_and_wires_meet_no_text(self):
         def judge(_, root):
-            bars = [e for e in root.iter(SVG + "rect") if e.get("data-gate")]
+            bars, boxes = [e for e in root.iter(SVG + "rect") if e.get("data-gate")], texts(root)
             for box in map(shape_box, bars + of_class(root, "line", "wire")):
-                for other in texts(root):
-                    self.assertFalse(box.meets(other), f"{box} meets {other}")
+                self.apart(box, boxes)
 
         self.each(judge)
 
@@ -304,7 +317,7 @@ class Bars(unittest.TestCase):
         self.assertEqual(round(Axis(root, "time-axis", "x").at(number(mark, "x"))), 8192)
 
     def test_rows(self):
-        for name, count in (("diamond", 4), ("large", 64)):
+        for name, count in (("diamond", 4), ("large", 64), ("front-end", MAX_GATES)):
             root = ElementTree.fromstring(block_picture(name, example(name), None))
             labels = of_class(root, "text", "gate")
             self.assertEqual([e.text for e in labels], [str(i) for i in range(count)])
@@ -406,7 +419,7 @@ class Spare(unittest.TestCase):
         self.assertEqual(self.curve(halves), self.curve(root))
 
     def test_many_corners_are_not_marked(self):
-        root = self.picture(3, [(2, 1000 - i) for i in range(512)])
+        root = self.picture(3, [(2, MAX_PAIRS - i) for i in range(MAX_PAIRS)])
         self.assertEqual(of_class(root, "circle", "corner"), [])
 
     def test_no_pairs(self):

@@ -4,6 +4,7 @@ import subprocess
 import unittest
 
 from building import ROOT
+from netlist import MAX_GATES
 from tests.scripts import BRIDGE, DIAMOND, LATE, ScriptTest
 
 PRINTOUT = "gates 4 wires 4\nstart 7 spare 3\nsaving 1441792\n0 2 0 3\n1 3 0 3\n2 1 2 5\n3 2 3 3\n"
@@ -27,6 +28,13 @@ class Accepted(ScriptTest):
     def test_several_files_have_a_name_in_front_of_each(self):
         found = self.run_script("resize", "d.block", "d.text", "d.block")
         self.held(found, 0, f"d.block:\n{PRINTOUT}d.text:\n{PRINTOUT}d.block:\n{PRINTOUT}")
+
+    def test_as_many_gates_as_there_can_be(self):
+        for form in ("block", "text"):
+            status, output, errors = self.run_script("resize", ROOT / f"examples/front-end.{form}")
+            lines = output.splitlines()
+            self.assertEqual((status, errors, lines[0], len(lines)), (0, "", "gates 200 wires 294", 3 + MAX_GATES))
+            self.assertEqual([line.split()[0] for line in lines[3:]], [str(gate) for gate in range(MAX_GATES)])
 
     def test_only_what_the_program_reads_decides(self):
         self.write("long.block", D + bytes([3]) * 100_000)

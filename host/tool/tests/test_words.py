@@ -5,11 +5,17 @@ import re
 import unittest
 from collections import Counter
 
-from netlist import Gate, Netlist, Step, Wire, decode, encode
+from description import MAX_NAME
+from netlist import MAX_GATES, MAX_PAIRS, Gate, Netlist, Step, Wire, decode, encode
 from tests.blocks import BRIDGE, RefusalTest, a_field, diamond, gate, head, network, refused_by_block, second_opinion, two
 from tests.blocks import wire, with_names
 from text import LINE
 from words import path_in_words, refusal_in_words
+
+
+LAST = MAX_GATES - 1
+# as many gates as there can be, one behind the other
+CHAIN = [(g, g + 1) for g in range(LAST)]
 
 
 def named(file, *names):
@@ -25,10 +31,9 @@ class LoopsAndEnds(RefusalTest):
         self.refused(network(8, *wires), 8, 1, "a loop: gate 1 -> gate 2 -> gate 3 -> gate 1")
 
     def test_long_loop(self):
-        wires = [(g, g + 1) for g in range(63)] + [(63, 0)]
-        said = refusal_in_words(network(64, *wires), 8, 0)
+        said = refusal_in_words(network(MAX_GATES, *CHAIN, (LAST, 0)), 8, 0)
         self.assertEqual(said[0][:41], "a loop: gate 0 -> gate 1 -> gate 2 -> gat")
-        self.assertRegex(said[0], r"gate 14 -> gate 15 -> 48 more -> gate 0$")
+        self.assertRegex(said[0], r"gate 14 -> gate 15 -> 184 more -> gate 0$")
 
     def test_no_loop(self):
         self.general(diamond(), 8, 1)
@@ -78,9 +83,9 @@ class LoopsAndEnds(RefusalTest):
         self.refused(network(2), 9, 0, "gate 0 has no wire out; every gate but the last, gate 1, needs one")
 
     def test_many_wires_in(self):
-        said = refusal_in_words(network(64, *[(g, 0) for g in range(1, 64)]), 9, 0)[0]
-        self.assertTrue(said.startswith("no wire may lead into gate 0, the first, but 63 do, from gate 1, gate 2, "))
-        self.assertTrue(said.endswith(", gate 15 and 48 more"), said)
+        said = refusal_in_words(network(MAX_GATES, *[(g, 0) for g in range(1, MAX_GATES)]), 9, 0)[0]
+        self.assertTrue(said.startswith("no wire may lead into gate 0, the first, but 199 do, from gate 1, gate 2, "))
+        self.assertTrue(said.endswith(", gate 15 and 184 more"), said)
 
 
 class Lent(RefusalTest):
@@ -88,7 +93,10 @@ class Lent(RefusalTest):
         front = "the lent memory is too short: "
         self.holds(diamond(), 10, 4, f"{front}4 elements are needed, one for each of 4 gates")
         self.holds(diamond(), 10, 16, f"{front}16 bytes are needed, 4 for each of 4 gates")
-        self.holds(diamond(), 10, 512, f"{front}512 elements are needed, as many as a curve can have pairs")
+        self.holds(diamond(), 10, MAX_PAIRS, f"{front}1600 elements are needed, as many as a curve can have pairs")
+        widest = network(MAX_GATES, *CHAIN)
+        self.holds(widest, 10, 200, f"{front}200 elements are needed, one for each of 200 gates")
+        self.holds(widest, 10, 800, f"{front}800 bytes are needed, 4 for each of 200 gates")
         self.holds(head(1) + gate(1, 1), 10, 1, f"{front}1 element is needed, one for each of 1 gate")
         self.holds(b"", 10, 7, f"{front}7 elements are needed")
         self.general(diamond(), 10, 0)
@@ -164,11 +172,10 @@ class Late(RefusalTest):
         self.refused(file, 12, 0, line)
 
     def test_long_path(self):
-        file = network(64, *[(g, g + 1) for g in range(63)], deadline=0)
-        first, second = refusal_in_words(file, 12, 0)
-        self.assertEqual(first, "late by 64 ticks: the longest path lasts 64 ticks from arrival 0, the deadline is 0:")
+        first, second = refusal_in_words(network(MAX_GATES, *CHAIN, deadline=0), 12, 0)
+        self.assertEqual(first, "late by 200 ticks: the longest path lasts 200 ticks from arrival 0, the deadline is 0:")
         self.assertTrue(second.startswith("gate 0 -> gate 1 -> "))
-        self.assertTrue(second.endswith(" -> gate 16 -> 46 more -> gate 63"), second)
+        self.assertTrue(second.endswith(" -> gate 16 -> 182 more -> gate 199"), second)
 
     def test_loops_and_ends(self):
         self.general(network(3, (0, 1), (1, 2), (2, 1), deadline=0), 12, 0)
@@ -228,18 +235,18 @@ class Names(RefusalTest):
         self.holds(file, 8, 0, line, netlist=netlist)
 
     def test_long_names_fit_the_line(self):
-        names = ["n" * 64] * 64
-        chained = network(64, *[(g, g + 1) for g in range(63)], deadline=0)
-        around = network(64, *[(g, g + 1) for g in range(63)], (63, 0))
-        bridges = network(64, *[(3 * k + a, 3 * k + b) for k in range(21) for a, b in BRIDGE])
-        into_first = network(64, *[(g, 0) for g in range(1, 64)])
+        names = ["n" * MAX_NAME] * MAX_GATES
+        chained = network(MAX_GATES, *CHAIN, deadline=0)
+        around = network(MAX_GATES, *CHAIN, (LAST, 0))
+        bridges = network(MAX_GATES, (0, 1), *[(3 * k + a + 1, 3 * k + b + 1) for k in range(66) for a, b in BRIDGE])
+        into_first = network(MAX_GATES, *[(g, 0) for g in range(1, MAX_GATES)])
         no_way_out = chained[:-5]
         for file, number, place in [
             (chained, 12, 0),
             (around, 8, 0),
             (bridges, 11, 1),
             (into_first, 9, 0),
-            (no_way_out, 9, 62),
+            (no_way_out, 9, LAST - 1),
         ]:
             lines = refusal_in_words(file, number, place, netlist=named(file, *names))
             self.assertNotEqual(lines[0][:7], "refused")
@@ -338,12 +345,9 @@ class Found(unittest.TestCase):
 
     def bridge(self, file, place, lines):
         block = second_opinion.Block(file)
-        wires, left = Counter(block.wires), set(range(block.n))
-        while second_opinion.reduce_once(wires, left, random.Random(1)):
-            pass
+        left, wires = second_opinion.reduced(block.n, block.wires, random.Random(1))
         self.assertTrue(lines[0].startswith(f"not series-parallel at gate {place}:"))
         self.assertEqual({int(g) for g in re.findall(r"gate (\d+)", lines[3])}, left)
-        wires = +wires
         for line, ends in [(lines[1], {a for a, b in wires if b == place}), (lines[2], {b for a, b in wires if a == place})]:
             self.assertEqual({int(g) for g in re.findall(r"gate (\d+)", re.sub(r"\(.*?\)", "", line))}, ends)
         self.advice(block, lines[4])

@@ -28,14 +28,14 @@ shared-slice-read-print-u32 c = search needs
 print-u32-requires : tie.Need-print-u32-requires Inv-loop μ-loop
 print-u32-requires c κs = search needs
 
-mul-print-u32-2 : tie.Need-mul-print-u32-2 Inv-loop μ-loop
-mul-print-u32-2 c = search needs
+mul-print-number : tie.Need-mul-print-number Inv-loop μ-loop
+mul-print-number c = search needs
 
-shared-slice-read-print-u32-2 : tie.Need-shared-slice-read-print-u32-2 Inv-loop μ-loop
-shared-slice-read-print-u32-2 c = search needs
+shared-slice-read-print-number : tie.Need-shared-slice-read-print-number Inv-loop μ-loop
+shared-slice-read-print-number c = search needs
 
-print-u32-requires-2 : tie.Need-print-u32-requires-2 Inv-loop μ-loop
-print-u32-requires-2 c κs = search needs
+print-number-requires : tie.Need-print-number-requires Inv-loop μ-loop
+print-number-requires c κs = search needs
 
 add-i : tie.Need-add-i Inv-loop μ-loop
 add-i c = search needs
@@ -50,4 +50,4 @@ returns-3 : tie.Need-returns-3 Inv-loop μ-loop
 returns-3 c = search needs
 
 pub print-pairs-spec : {M : Type 1} → statement M
-print-pairs-spec = tie.close (tie.spec Inv-loop μ-loop loop-holds returns returns-2 mul-print-u32 shared-slice-read-print-u32 print-u32-requires mul-print-u32-2 shared-slice-read-print-u32-2 print-u32-requires-2 add-i loop-less loop-again returns-3)
+print-pairs-spec = tie.close (tie.spec Inv-loop μ-loop loop-holds returns returns-2 mul-print-u32 shared-slice-read-print-u32 print-u32-requires mul-print-number shared-slice-read-print-number print-number-requires add-i loop-less loop-again returns-3)

@@ -4,6 +4,7 @@ use borrow.Author.Needs.{needs}
 use Prim.Native.Nat.{ℕ}
 use native.Mathlib.Omega.{arith}
 use lib.ListN.{length-replicate, getD-replicate}
+use Rattle.loops.specs.Square.{square-size}
 use Rattle.loops.proofs.Pairs.{lent-all, pairs-fewer, first-on-loop}
 use Rattle.loops.proofs.lowest_on_loop.Statement.{statement}
 use Rattle.loops.proofs.lowest_on_loop.Tie as tie
@@ -12,8 +13,8 @@ slice-aggregate-mark-pairs : tie.Need-slice-aggregate-mark-pairs
 slice-aggregate-mark-pairs c = search needs
 
 mark-pairs-requires : tie.Need-mark-pairs-requires
-mark-pairs-requires c κs = let l = length-replicate {A = ℕ} 4096 0 in
-    (lent-all (c .before .before .before .pre), (omega arith, λ i h. getD-replicate {A = ℕ} 4096 i 0 0 h))
+mark-pairs-requires c κs = let l = length-replicate {A = ℕ} square-size 0 in
+    (lent-all (c .before .before .before .pre), (omega arith, λ i h. getD-replicate {A = ℕ} square-size i 0 0 h))
 
 slice-aggregate-close-square : tie.Need-slice-aggregate-close-square
 slice-aggregate-close-square c = search needs
@@ -22,7 +23,7 @@ close-square-requires : tie.Need-close-square-requires
 close-square-requires c κs =
     let mark-pairs = c .before .before .mark-pairs in
     let entry = c .before .before .before .before .before .before in
-    let l = length-replicate {A = ℕ} 4096 0 in
+    let l = length-replicate {A = ℕ} square-size 0 in
     let k = mark-pairs .kept .1 .1 .1 .0 in
     (entry .pre .gates, omega arith)
 
@@ -34,7 +35,7 @@ first-paired-requires c κs =
     let mark-pairs = c .before .before .before .before .before .mark-pairs in
     let close-square = c .before .before .close-square in
     let entry = c .before .before .before .before .before .before .before .before .before in
-    let l = length-replicate {A = ℕ} 4096 0 in
+    let l = length-replicate {A = ℕ} square-size 0 in
     let k = mark-pairs .kept .1 .1 .1 .0 in
     let j = close-square .kept .1 .0 in
     (entry .pre .gates, omega arith)

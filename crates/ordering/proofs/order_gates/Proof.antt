@@ -3,6 +3,7 @@
 use borrow.Author.Needs.{needs}
 use mathlib.Core.Path.{_∙_}
 use native.Mathlib.Omega.{arith}
+use Rattle.model.specs.Limits.{max-gates}
 use Rattle.model.proofs.Slack.{zeros}
 use Rattle.ordering.proofs.Chains.{zeros-chainable}
 use Rattle.ordering.proofs.Passing.{counted-begins}
@@ -29,7 +30,7 @@ count-wires-requires : tie.Need-count-wires-requires
 count-wires-requires c κs =
     let L = c .before .before .before .before .before .before .before .before .before .pre .0 in
     let few = L .gates in
-    ((L .wires, L .targets-long), (λ i h. let l = L .target-is-gate i h in omega arith, zeros 64))
+    ((L .wires, L .targets-long), (λ i h. let l = L .target-is-gate i h in omega arith, zeros max-gates))
 
 slice-aggregate-place-free : tie.Need-slice-aggregate-place-free
 slice-aggregate-place-free c = search needs

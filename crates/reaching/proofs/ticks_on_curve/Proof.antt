@@ -2,7 +2,7 @@
 use borrow.Author.Needs.{needs}
 use native.Mathlib.Omega.{arith}
 use Rattle.reaching.proofs.CurveLaws.{known, passed-on}
-use Rattle.reaching.proofs.TicksLaws.{ticks-beyond, ticks-few, ticks-given}
+use Rattle.reaching.proofs.TicksLaws.{ticks-beyond, ticks-few, ticks-given, earnings-fit}
 use Rattle.reaching.proofs.ticks_on_curve.Statement.{statement}
 use Rattle.reaching.proofs.ticks_on_curve.Tie as tie
 
@@ -13,7 +13,9 @@ enum-known-found-2 : tie.Need-enum-known-found-2
 enum-known-found-2 c = search needs
 
 ticks-for-requires : tie.Need-ticks-for-requires
-ticks-for-requires c κs = (rw (c .before .found2 .given .1) at (c .before .before .before .before .before .pre .1 .bounds)) .0
+ticks-for-requires c κs =
+    let k = rw (c .before .found2 .given .1) at (c .before .before .before .before .before .pre .1) in
+    (k .bounds .0, earnings-fit k)
 
 enum-known-reach : tie.Need-enum-known-reach
 enum-known-reach c = search needs

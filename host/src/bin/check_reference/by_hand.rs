@@ -2,9 +2,10 @@
 //! in finer ticks, the fewest ticks for wanted savings, and those at the boundaries of the refusals.
 
 use reference::answers;
-use reference::block::{decode, encode, Refusal, MAX_GATES};
+use reference::block::{decode, encode, Refusal, MAX_BYTES, MAX_GATES, MAX_PAIRS, MAX_TICKS, MAX_WIRES};
 use reference::boundaries::ticks::Wanted;
 use reference::boundaries::{self, Boundary};
+use reference::edition::max_gain;
 use reference::generate::limits;
 use reference::search::Best;
 use reference::worked::{self, Expected, U};
@@ -40,7 +41,7 @@ fn are_fewest(file: &[u8], wanted: u64, ticks: Option<u64>) -> bool {
 
 /// Whether a worked block gets the answer that was worked out.
 fn holds(file: &[u8], expected: &Expected) -> bool {
-    let curve = || answers::curve(file, 512, 512).expect("a curve");
+    let curve = || answers::curve(file, MAX_PAIRS, MAX_PAIRS).expect("a curve");
     match expected {
         Expected::Best(increases, saving) => is_best(file, &Best { increases: increases.to_vec(), saving: *saving }),
         Expected::AtStart(saving) => curve().at_start == *saving,
@@ -86,7 +87,7 @@ pub fn check_boundaries() -> usize {
         let of_curve = refused.filter(|r| r.0 != 12);
         assert_eq!(refusal(answers::best_increases(file, MAX_GATES)), *refused, "{name}");
         assert_eq!(refusal(answers::layout_call(file, 4 * MAX_GATES)), *refused, "{name}, layout call");
-        assert_eq!(refusal(answers::curve(file, 512, 512)), of_curve, "{name}, curve");
+        assert_eq!(refusal(answers::curve(file, MAX_PAIRS, MAX_PAIRS)), of_curve, "{name}, curve");
         assert_eq!(refusal(answers::fewest_ticks(file, 0)), of_curve, "{name}, nothing wanted");
         assert_eq!(
             refusal(answers::fewest_ticks(file, u64::MAX)),
@@ -116,17 +117,19 @@ pub fn check_wanted() -> usize {
     all.len()
 }
 
-/// The limits of a curve are reached: 512 pairs, 64 x 8 x 4,095 ticks, and a gain of 63 x 32,768 x 1,000 up to edition 2, of
-/// 63 x 65,535 x 1,000, which 32 bits hold, in edition 3.
+/// The limits are those of document 02's K10 or follow from them: 200 x 8 pairs, 200 x 8 x 4,095 ticks, a gain of
+/// 199 x 32,768 x 1,000 up to edition 2 and of 199 x 65,535 x 1,000, which 32 bits do not hold, in edition 3. A curve reaches each
+/// of its limits.
 pub fn check_limits() {
-    let pairs = exact::curve(&limits::most_pairs()).pairs;
-    assert_eq!(pairs.len(), 512);
-    let pairs = exact::curve(&limits::largest_gain()).pairs;
-    assert_eq!(pairs, [(2, 63 * 32_768 * 1_000)]);
-    let pairs = exact::curve(&limits::largest_measured_gain()).pairs;
-    assert_eq!(pairs, [(2, 4_128_705_000)]);
-    assert!(pairs[0].1 == 63 * 65_535 * 1_000 && u32::try_from(pairs[0].1).is_ok());
-    assert_eq!(exact::curve(&limits::most_ticks()).ticks(), 64 * 8 * 4_095);
+    assert_eq!((MAX_GATES, MAX_WIRES, MAX_BYTES), (200, 600, 16_384));
+    assert_eq!((MAX_PAIRS, MAX_TICKS), (1_600, 6_552_000));
+    // 11 + 200 x 39 + 600 x 7
+    assert_eq!([limits::largest_file().len(), limits::largest_measured_file().len()], [12_011; 2]);
+    assert_eq!([1, 2, 3].map(max_gain), [6_520_832_000, 6_520_832_000, 13_041_465_000]);
+    assert_eq!(exact::curve(&limits::most_pairs()).pairs.len(), MAX_PAIRS);
+    assert_eq!(exact::curve(&limits::largest_gain()).pairs, [(2, max_gain(1))]);
+    assert_eq!(exact::curve(&limits::largest_measured_gain()).pairs, [(2, max_gain(3))]);
+    assert_eq!(exact::curve(&limits::most_ticks()).ticks(), MAX_TICKS);
 }
 
 /// 001's chain with 12, 26 and 27 ticks to spare: ticks beyond the curve's end earn 0.
@@ -151,15 +154,28 @@ pub fn check_room() -> usize {
         assert_eq!(refusal(answers::slacks(file, 4)), None);
         assert_eq!(refusal(answers::best_increases(file, 3)), ten(4));
         assert_eq!(refusal(answers::layout_call(file, 15)), ten(16));
-        assert_eq!(refusal(answers::curve(file, 511, 512)), ten(512));
-        assert_eq!(refusal(answers::curve(file, 512, 511)), ten(512));
+        assert_eq!(refusal(answers::curve(file, MAX_PAIRS - 1, MAX_PAIRS)), ten(MAX_PAIRS as u32));
+        assert_eq!(refusal(answers::curve(file, MAX_PAIRS, MAX_PAIRS - 1)), ten(MAX_PAIRS as u32));
         assert_eq!(refusal(answers::judge(file, &[u32::MAX; 3])), ten(4));
         assert_eq!(refusal(answers::judge(file, &[u32::MAX; 4])), Some((13, 0)));
     }
     assert_eq!(refusal(answers::layout_call(&late_bridge, 16)), Some((11, 1)));
-    assert_eq!(refusal(answers::curve(&late_bridge, 512, 512)), Some((11, 1)));
+    assert_eq!(refusal(answers::curve(&late_bridge, MAX_PAIRS, MAX_PAIRS)), Some((11, 1)));
     assert_eq!(refusal(answers::layout_call(&late, 16)), Some((12, 0)));
-    assert_eq!(refusal(answers::curve(&late, 512, 512)), None);
+    assert_eq!(refusal(answers::curve(&late, MAX_PAIRS, MAX_PAIRS)), None);
     assert_eq!(refusal(answers::best_increases(&[], 0)), Some((1, 0)));
-    16 + 5
+    16 + 5 + check_most_room()
+}
+
+/// The same of a chain of the most gates, whose layout call needs 800 bytes.
+fn check_most_room() -> usize {
+    let file = encode(&limits::bare_chain(MAX_GATES));
+    for (lent, refused) in [(MAX_GATES, None), (MAX_GATES - 1, Some((10, MAX_GATES as u32)))] {
+        assert_eq!(refusal(answers::slacks(&file, lent)), refused);
+        assert_eq!(refusal(answers::best_increases(&file, lent)), refused);
+        assert_eq!(refusal(answers::judge(&file, &vec![0; lent])), refused);
+    }
+    assert_eq!(refusal(answers::layout_call(&file, 799)), Some((10, 800)));
+    assert_eq!(refusal(answers::layout_call(&file, 800)), None);
+    6 + 2
 }

@@ -1,11 +1,12 @@
 //! Blocks in finer ticks against the blocks themselves (document 02, K14).
 
 use reference::answers::check_parts;
-use reference::block::{decode, encode, Block};
+use reference::block::{decode, encode, Block, MAX_GATES};
 use reference::edition::MAX_EDITION;
 use reference::finer::{by_flows, by_trying, difference, scaled, times_of, Method};
 use reference::generate::editions::Counted;
 use reference::generate::finer::{block_to_scale, small_block_to_scale, FACTORS};
+use reference::generate::MIDDLE_GATES;
 use reference::random::Random;
 use reference::{exact, timing};
 use std::fmt::{Display, Formatter, Result};
@@ -47,7 +48,7 @@ impl Kinds {
 
     /// That at least so many blocks of each kind were compared.
     fn hold(&self, least: usize) {
-        let Counted { delayed, measured, tied } = self.counted;
+        let Counted { delayed, measured, tied, .. } = self.counted;
         let Kinds { in_time, late, others, choosing, at_limits, .. } = *self;
         let kinds = [in_time, late, others, choosing, at_limits, delayed, measured, tied];
         assert!(kinds.iter().all(|&kind| kind >= least), "{self}");
@@ -86,13 +87,13 @@ pub fn check_small(random: &mut Random) -> Kinds {
     kinds
 }
 
-/// Blocks of up to 64 gates, by flows.
+/// Middle-sized and some large blocks, by flows.
 pub fn check_large(random: &mut Random) -> Kinds {
     let mut kinds = Kinds::default();
     for round in 0..200 {
         let m = FACTORS[round % FACTORS.len()];
         for edition in 1..=MAX_EDITION {
-            let gates = 1 + random.below(64);
+            let gates = 1 + random.below(if round % 20 == 0 { MAX_GATES } else { MIDDLE_GATES });
             let block = block_to_scale(random, edition, gates, m, u64::MAX);
             compare(&mut kinds, by_flows, &block, m);
         }

@@ -4,7 +4,7 @@ use reference::block::{decode, encode, Block, Refusal, Wire, MAX_GATES};
 use reference::edition::{has_wire_delays, is_measured};
 use reference::generate::editions::{in_any_edition, in_edition_3, Counted};
 use reference::generate::ties::{has_ties, tied_block};
-use reference::generate::{self, any_block, Values, Wires};
+use reference::generate::{self, any_block, Values, Wires, MIDDLE_GATES};
 use reference::random::Random;
 use reference::{merging, network, parts, search, timing};
 use std::collections::HashSet;
@@ -110,7 +110,7 @@ pub fn check_left(random: &mut Random) -> (usize, usize, usize) {
     let mut places = HashSet::new();
     for round in 0..8_000 {
         let kind = random.pick(&[Wires::SeriesParallel, Wires::Wide, Wires::Nearly, Wires::Bridged, Wires::General]);
-        let most_gates = if round % 4 == 0 { 64 } else { 10 };
+        let most_gates = [if round % 80 == 0 { MAX_GATES } else { MIDDLE_GATES }, 10, 10, 10][round % 4];
         let gates = 1 + random.below(most_gates);
         let block = generate::block(random, kind, Values::Small, gates, 0);
         let block = in_any_edition(random, block);
@@ -171,7 +171,8 @@ pub fn check_generator(random: &mut Random, edition: u8) -> usize {
 pub fn check_tied(random: &mut Random, edition: u8) -> (usize, usize) {
     let (blocks, mut tied) = (500, 0);
     for round in 0..blocks {
-        let block = tied_block(random, edition, 3 + round % 62);
+        let gates = if round % 50 == 0 { MAX_GATES - round / 50 } else { 3 + round % (MIDDLE_GATES - 2) };
+        let block = tied_block(random, edition, gates);
         assert_eq!((block.edition, decode(&encode(&block))), (edition, Ok(block.clone())));
         assert!(parts::reduces(&block) && timing::spare(&block) > 0, "{block:?}");
         tied += usize::from(has_ties(&block));

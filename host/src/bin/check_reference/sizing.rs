@@ -2,12 +2,11 @@
 
 use crate::networks::small_block;
 use reference::answers;
-use reference::block::{decode, encode, Block, MAX_DROP, MAX_GATES};
-use reference::edition::max_activity;
-use reference::exact::Order;
+use reference::block::{decode, encode, Block, MAX_GATES, MAX_PAIRS, MAX_TICKS};
+use reference::edition::max_gain;
 use reference::generate::editions::{in_any_edition, Counted};
 use reference::generate::ties::any_tied_block;
-use reference::generate::{self, any_block, Values, Wires, ALL_VALUES};
+use reference::generate::{self, any_block, Values, Wires, ALL_VALUES, MIDDLE_GATES};
 use reference::random::Random;
 use reference::{damage, exact, merging, parts, search, timing};
 
@@ -24,7 +23,7 @@ pub fn check_exact(random: &mut Random) -> (Counted, usize, usize) {
         assert_eq!(exact::best(&block), tried, "{block:?}");
         let (start, savings) = search::best_savings(&block);
         for (k, saving) in savings.iter().enumerate() {
-            let within = exact::best_within(&block, start as i64 + k as i64, Order::FarEnd).expect("a list");
+            let within = exact::best_within(&block, start as i64 + k as i64).expect("a list");
             assert_eq!(within.saving, *saving, "spare {k}: {block:?}");
             lists += 1;
         }
@@ -33,7 +32,7 @@ pub fn check_exact(random: &mut Random) -> (Counted, usize, usize) {
         }
     }
     assert!(
-        counted.delayed > 1_000 && counted.measured > 1_000 && counted.tied > 200 && late > 100,
+        counted.delayed > 1_000 && counted.measured > 1_000 && counted.tied > 250 && late > 100,
         "{counted} {late}"
     );
     (counted, lists, late)
@@ -41,7 +40,11 @@ pub fn check_exact(random: &mut Random) -> (Counted, usize, usize) {
 
 /// A block of any kind in any edition; every fourth one is made for ties.
 fn merged_block(random: &mut Random, round: usize) -> Block {
-    let most_gates = if round % 10 == 0 { 64 } else { 16 };
+    let most_gates = match round % 100 {
+        0 | 1 => MAX_GATES,
+        of_hundred if of_hundred % 10 == 0 => MIDDLE_GATES,
+        _ => 16,
+    };
     if round % 4 == 0 {
         return any_tied_block(random, most_gates);
     }
@@ -94,7 +97,7 @@ fn best_saving_with(block: &mut Block, gate: usize, increase: u32) -> Option<u64
 /// A series-parallel block of 8 gates or more in any edition.
 fn larger_block(random: &mut Random) -> Block {
     let values = random.pick(&[Values::Equal, Values::Equal, Values::Exhausted, Values::Plain]);
-    let gates = 8 + random.below(57);
+    let gates = random.between(8, MIDDLE_GATES as u32) as usize;
     let block = generate::block(random, Wires::SeriesParallel, values, gates, 3);
     in_any_edition(random, block)
 }
@@ -105,7 +108,7 @@ fn larger_block(random: &mut Random) -> Block {
 pub fn check_ties(random: &mut Random) -> (usize, usize, Counted) {
     let (mut blocks, mut gates, mut counted) = (0, 0, Counted::default());
     while blocks < 300 {
-        let mut block = if blocks % 2 == 0 { larger_block(random) } else { any_tied_block(random, 64) };
+        let mut block = if blocks % 2 == 0 { larger_block(random) } else { any_tied_block(random, MIDDLE_GATES) };
         let best = match exact::best(&block) {
             Some(best) => best,
             None => continue,
@@ -131,20 +134,19 @@ pub fn check_ties(random: &mut Random) -> (usize, usize, Counted) {
 
 /// The curve says what the best list saves, at the block's own spare and at some others.
 pub fn check_curve(random: &mut Random) -> usize {
-    for _ in 0..300 {
+    for round in 0..300 {
         let values = random.pick(&ALL_VALUES);
-        let gates = 1 + random.below(40);
+        let gates = 1 + random.below(if round % 20 == 0 { MAX_GATES } else { 40 });
         let block = generate::block(random, Wires::SeriesParallel, values, gates, 8);
         let block = in_any_edition(random, block);
         let curve = exact::curve(&block);
-        let most_gain = 63 * u64::from(max_activity(block.edition)) * u64::from(MAX_DROP);
-        assert!(curve.pairs.len() <= 512);
-        assert!(curve.pairs.iter().all(|p| p.0 >= 1 && (1..=most_gain).contains(&p.1)));
+        assert!(curve.pairs.len() <= MAX_PAIRS && curve.ticks() <= MAX_TICKS);
+        assert!(curve.pairs.iter().all(|p| p.0 >= 1 && (1..=max_gain(block.edition)).contains(&p.1)));
         assert!(curve.pairs.windows(2).all(|p| p[0].1 > p[1].1));
         let all: u64 = curve.pairs.iter().map(|p| p.0).sum();
         for _ in 0..4 {
             let spare = random.below(all as usize + 2) as u64;
-            let best = exact::best_within(&block, (curve.start + spare) as i64, Order::FarEnd).expect("a list");
+            let best = exact::best_within(&block, (curve.start + spare) as i64).expect("a list");
             assert_eq!(best.saving, curve.counted_off(spare), "spare {spare}: {block:?}");
         }
     }

@@ -2,13 +2,12 @@
 
 use crate::networks::small_block;
 use reference::answers::{self, FewestTicks};
-use reference::block::{encode, refuse, Block, Refusal};
-use reference::exact::{self, Order};
+use reference::block::{encode, refuse, Block, Refusal, MAX_GATES};
 use reference::generate::editions::Counted;
 use reference::generate::ticks::uneven_block;
 use reference::generate::Wires;
 use reference::random::Random;
-use reference::{parts, search, timing};
+use reference::{exact, parts, search, timing};
 use std::fmt::{Display, Formatter, Result};
 
 /// How many blocks and wanted savings there were, how often each answer was given, and which the blocks were.
@@ -85,13 +84,11 @@ pub fn check_large(random: &mut Random) -> Asked {
     let mut asked = Asked::default();
     for round in 0..300 {
         let edition = 1 + (round % 3) as u8;
-        let gates = 1 + random.below(40);
+        let gates = 1 + random.below(if round % 20 == 0 { MAX_GATES } else { 40 });
         let widest = random.pick(&[3, 20, 4_095]);
         let block = uneven_block(random, edition, gates, widest);
         let (file, curve) = (encode(&block), exact::curve(&block));
-        let within = |ticks: u64| {
-            exact::best_within(&block, (curve.start + ticks) as i64, Order::FarEnd).expect("a list").saving
-        };
+        let within = |ticks: u64| exact::best_within(&block, (curve.start + ticks) as i64).expect("a list").saving;
         asked.count_block(&block);
         let ticks = random.below(curve.ticks() as usize + 1) as u64;
         for wanted in around(&[within(ticks), curve.counted_off(u64::MAX)]) {

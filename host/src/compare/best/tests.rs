@@ -3,7 +3,7 @@
 use super::*;
 use crate::block::{Block, Wire};
 use crate::compare::calls::bytes_of;
-use crate::exact::{best_in_order, Order};
+use crate::exact::best_from_gate_0;
 use crate::parts::gates_left;
 use crate::worked;
 
@@ -15,7 +15,7 @@ fn right(file: &[u8], lent: &mut [u8]) -> Answer {
 }
 
 fn noticed(call: Call) -> bool {
-    compare(call, 600, 5).is_err()
+    compare(call, 750, 5).is_err()
 }
 
 #[test]
@@ -191,7 +191,7 @@ fn another_range_of_numbers_is_noticed() {
 fn room_judged_after_the_parts_is_noticed() {
     assert!(noticed(&mut |file, lent| {
         let answer = right(file, lent);
-        let with_room = best_increases(file, 256).0;
+        let with_room = best_increases(file, 4 * MAX_GATES).0;
         if answer.number == 10 && with_room.number == 11 {
             with_room
         } else {
@@ -232,7 +232,7 @@ fn another_order_of_ties_is_noticed() {
         let answer = right(file, lent);
         if answer.number == 0 {
             let block = decode(file).expect("a block");
-            let best = best_in_order(&block, Order::FromGate0).expect("a list in time");
+            let best = best_from_gate_0(&block).expect("a list in time");
             let bytes = bytes_of(&best.increases);
             lent[..bytes.len()].copy_from_slice(&bytes);
         }

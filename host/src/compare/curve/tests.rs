@@ -3,7 +3,7 @@
 use super::*;
 
 /// The reference itself, as a call.
-fn right(file: &[u8], widths: &mut [u32], gains: &mut [u32]) -> CurveAnswer {
+fn right(file: &[u8], widths: &mut [u32], gains: &mut [u64]) -> CurveAnswer {
     let (answer, right_widths, right_gains) = curve(file, widths.len(), gains.len());
     widths[..right_widths.len()].copy_from_slice(&right_widths);
     gains[..right_gains.len()].copy_from_slice(&right_gains);
@@ -11,12 +11,12 @@ fn right(file: &[u8], widths: &mut [u32], gains: &mut [u32]) -> CurveAnswer {
 }
 
 fn noticed(call: Call) -> bool {
-    compare(call, 550, 6).is_err()
+    compare(call, 700, 6).is_err()
 }
 
 #[test]
 fn the_reference_is_like_itself_and_every_number_occurs() {
-    let met = compare(&mut right, 1_000, 6).ok().expect("no difference");
+    let met = compare(&mut right, 1_150, 6).ok().expect("no difference");
     assert!((0..=11).all(|number| met.numbers[number] > 0), "{:?}", met.numbers);
     assert!(met.numbers[12..].iter().all(|&count| count == 0));
     assert!(!noticed(&mut right));
@@ -70,10 +70,18 @@ fn other_room_is_noticed() {
     }));
 }
 
-/// Widths and gains exchanged; an element behind the pairs, or one lent to a refused call, changed.
+/// Widths and gains exchanged; gains of 32 bits; an element behind the pairs, or one lent to a refused call, changed.
 #[test]
 fn wrong_elements_are_noticed() {
-    assert!(noticed(&mut |file, widths, gains| right(file, gains, widths)));
+    let changes: [fn(&mut u32, &mut u64); 2] =
+        [|width, gain| (*width, *gain) = (*gain as u32, u64::from(*width)), |_, gain| *gain = u64::from(*gain as u32)];
+    for change in changes {
+        assert!(noticed(&mut |file, widths, gains| {
+            let answer = right(file, widths, gains);
+            widths.iter_mut().zip(gains).take(answer.pairs as usize).for_each(|(width, gain)| change(width, gain));
+            answer
+        }));
+    }
     assert!(noticed(&mut |file, widths, gains| {
         let answer = right(file, widths, gains);
         widths.iter_mut().skip(answer.pairs as usize).take(1).for_each(|width| *width ^= 1);

@@ -5,12 +5,12 @@ use crate::block::{decode, encode};
 use crate::{parts, timing};
 
 fn noticed(call: Call) -> bool {
-    compare(call, 550, 8).is_err()
+    compare(call, 700, 8).is_err()
 }
 
 #[test]
 fn the_reference_is_like_itself_and_every_number_occurs() {
-    let compared = compare(&mut judge, 1_000, 8).ok().expect("no difference");
+    let compared = compare(&mut judge, 1_150, 8).ok().expect("no difference");
     let numbers = compared.met.numbers;
     assert!((0..=14).all(|number| (numbers[number] > 0) != [11, 12].contains(&number)), "{numbers:?}");
     assert!(numbers[15..].iter().all(|&count| count == 0));

@@ -5,7 +5,7 @@ use crate::block::decode;
 use crate::compare::calls::fewest_ticks;
 
 fn noticed(call: Call) -> bool {
-    compare(call, 600, 6).is_err()
+    compare(call, 750, 6).is_err()
 }
 
 /// The reference with another answer where a block gets its curve and the fewest ticks are given.

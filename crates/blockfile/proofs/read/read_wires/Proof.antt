@@ -5,6 +5,7 @@ use mathlib.Core.Path.{_≡_, refl, _∙_}
 use Prim.Native.Nat.{_-_, _≤_}
 use native.Mathlib.Omega.{arith}
 use lib.ListN.{length}
+use Rattle.model.specs.Limits.{max-wires}
 use Rattle.blockfile.specs.Held.{wire-arrays, wires-held}
 use Rattle.blockfile.proofs.Wires.{WiresSoFar, so-far-none, so-far-more, so-far-refused, so-far-full, so-far-ended, WireLengths, wire-lengths-same, wire-lengths-room}
 use Rattle.blockfile.proofs.read.read_wires.Statement.{statement}
@@ -12,13 +13,13 @@ use Rattle.blockfile.proofs.read.read_wires.Tie as tie
 
 abbrev Inv-loop : tie.InvT-loop
 Inv-loop file start edition gates sources₀ targets₀ wire-delays₀ seen₀ offset₀ wires₀ sources targets wire-delays seen offset wires =
-    (wires ≤ 256)
+    (wires ≤ max-wires)
     × WireLengths (wire-arrays sources targets wire-delays) (wire-arrays sources₀ targets₀ wire-delays₀)
     × (length seen ≡ length seen₀)
     × WiresSoFar edition gates file start wires (wire-arrays sources targets wire-delays) seen offset
 
 abbrev μ-loop : tie.MeasureT-loop
-μ-loop file start edition gates sources₀ targets₀ wire-delays₀ seen₀ offset₀ wires₀ sources targets wire-delays seen offset wires = 256 - wires
+μ-loop file start edition gates sources₀ targets₀ wire-delays₀ seen₀ offset₀ wires₀ sources targets wire-delays seen offset wires = max-wires - wires
 
 loop-holds : tie.Need-loop-holds Inv-loop μ-loop
 loop-holds c =

@@ -35,7 +35,7 @@ slice-aggregate-reduce-network-9 : tie.Need-slice-aggregate-reduce-network-9
 slice-aggregate-reduce-network-9 c = search needs
 
 reduce-network-requires : tie.Need-reduce-network-requires
-reduce-network-requires c κs = let g = c .before .before .before .before .before .before .before .before .before .before .before .before .pre .0 .1 in let w = c .before .before .before .before .before .before .before .before .before .before .before .before .pre .1 .0 in (reducible g, (record { live-room = omega (arith, few-wires g); from-room = w .sources-long; to-room = omega (arith, few-wires g); top-room = omega (arith, few-wires g); kind-room = omega (arith, few-wires g); left-room = omega (arith, few-wires g); gate-room = omega (arith, few-wires g); right-room = omega (arith, few-wires g) }, (w .targets-long, (w .delays-long, (omega (arith, few-gates g), (omega (arith, few-gates g), (omega (arith, few-gates g), omega (arith, few-wires g))))))))
+reduce-network-requires c κs = let g = c .before .before .before .before .before .before .before .before .before .before .before .before .pre .0 .1 in let w = c .before .before .before .before .before .before .before .before .before .before .before .before .pre .1 .0 in (reducible g, (record { live-room = omega (arith, few-wires g); from-room = w .sources-long; to-room = omega (arith, few-wires g); top-room = omega (arith, few-wires g); kind-room = omega (arith, few-wires g, few-gates g); left-room = omega (arith, few-wires g, few-gates g); gate-room = omega (arith, few-wires g, few-gates g); right-room = omega (arith, few-wires g, few-gates g) }, (w .targets-long, (w .delays-long, (omega (arith, few-gates g), (omega (arith, few-gates g), (omega (arith, few-gates g), omega (arith, few-wires g))))))))
 
 enum-known-answer : tie.Need-enum-known-answer
 enum-known-answer c = search needs

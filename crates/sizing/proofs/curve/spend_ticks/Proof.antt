@@ -8,7 +8,7 @@ use Rattle.optimum.specs.Head.{Head}
 use Rattle.heads.specs.Plan.{plan}
 use Rattle.handout.specs.State.{state}
 use Rattle.sizing.proofs.Ticking.{run-read}
-use Rattle.sizing.proofs.Spending.{Spending, spending-starts, gain-small, spending-full, spending-ends, run-fits, run-left, widths-fit, spending-on}
+use Rattle.sizing.proofs.Spending.{Spending, spending-starts, spending-full, spending-ends, run-fits, run-left, widths-fit, spending-on}
 use Rattle.sizing.proofs.curve.spend_ticks.Statement.{statement}
 use Rattle.sizing.proofs.curve.spend_ticks.Tie as tie
 
@@ -42,9 +42,6 @@ returns c = spending-ends (c .before .before .before .before .before .before .be
 gain-in-requires : tie.Need-gain-in-requires Inv-loop μ-loop
 gain-in-requires c κs = search needs
 
-cast-note : tie.Need-cast-note Inv-loop μ-loop
-cast-note c = omega (arith, c .gain-in .ensures, ap (λ (a : Head). a .gain) (c .before .before .before .node-entry .ensures), gain-small (c .before .before .before .before .before .before .before .before .before .before .pre .0) (c .before .before .before .before .before .before .loop .inv .3))
-
 note-requires : tie.Need-note-requires Inv-loop μ-loop
 note-requires c κs = ((omega (arith, c .before .before .before .before .before .before .before .before .loop .inv .3 .few, c .before .before .before .before .before .before .before .loop-test .taken, c .before .before .before .before .before .before .before .before .before .before .before .before .pre .1 .1 .0, c .before .before .before .before .before .before .before .before .loop .inv .1), omega (arith, c .before .before .before .before .before .before .before .before .loop .inv .3 .few, c .before .before .before .before .before .before .before .loop-test .taken, c .before .before .before .before .before .before .before .before .before .before .before .before .pre .1 .1 .1, c .before .before .before .before .before .before .before .before .loop .inv .2)), widths-fit (c .before .before .before .before .before .before .before .before .before .before .before .before .pre .0) (c .before .before .before .before .before .before .before .before .loop .inv .3) (run-read _ (c .before .before .before .before .before .node-entry .ensures) (c .before .before .before .before .next-run .ensures)) (c .before .before .before .if1 .left))
 
@@ -76,4 +73,4 @@ returns-2 : tie.Need-returns-2 Inv-loop μ-loop
 returns-2 c = spending-full (c .before .before .before .before .before .pre .0) (c .before .loop .inv .3) (c .loop-test .left)
 
 pub spend-ticks-spec : {M : Type 1} → statement M
-spend-ticks-spec = tie.close (tie.spec Inv-loop μ-loop loop-holds node-entry-requires next-run-requires same-length same-length-2 same-length-3 returns gain-in-requires cast-note note-requires series-give-out-requires sub-left add-k loop-less loop-again same-length-4 same-length-5 same-length-6 returns-2)
+spend-ticks-spec = tie.close (tie.spec Inv-loop μ-loop loop-holds node-entry-requires next-run-requires same-length same-length-2 same-length-3 returns gain-in-requires note-requires series-give-out-requires sub-left add-k loop-less loop-again same-length-4 same-length-5 same-length-6 returns-2)

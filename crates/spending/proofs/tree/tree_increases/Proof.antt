@@ -1,7 +1,7 @@
 -- `spending::tree::tree_increases` meets its contract: what the ticks earn is counted off the pairs of their runs. Assumes nothing.
 use borrow.Author.Needs.{needs}
 use native.Mathlib.Omega.{arith}
-use Rattle.spending.proofs.CountLaws.{sum-fits, increases-found}
+use Rattle.spending.proofs.CountLaws.{sum-fits, earned-fits, increases-found}
 use Rattle.spending.proofs.tree.tree_increases.Statement.{statement}
 use Rattle.spending.proofs.tree.tree_increases.Tie as tie
 
@@ -21,7 +21,9 @@ slice-aggregate-count-off-2 : tie.Need-slice-aggregate-count-off-2
 slice-aggregate-count-off-2 c = search needs
 
 count-off-requires : tie.Need-count-off-requires
-count-off-requires c κs = search needs
+count-off-requires c κs =
+    let s = c .before .before .before .before .before .before .before .before .before .before .before .before in
+    earned-fits (s .pre .0 .1) (c .before .before .before .before .before .before .tree-runs .ensures (s .pre .0 .0) (s .pre .0 .1)) (s .pre .1 .1)
 
 add-result : tie.Need-add-result
 add-result c = omega (arith, sum-fits (c .before .before .before .before .before .before .before .before .before .before .before .before .before .before .pre .0 .1) (c .before .before .before .before .before .before .before .before .tree-runs .ensures (c .before .before .before .before .before .before .before .before .before .before .before .before .before .before .pre .0 .0) (c .before .before .before .before .before .before .before .before .before .before .before .before .before .before .pre .0 .1)) (c .before .count-off .ensures) (c .before .before .before .before .before .before .before .before .before .before .before .before .before .before .pre .1 .1))

@@ -5,13 +5,13 @@ use mathlib.Core.List.{List}
 use Prim.Native.Nat.{ℕ, _-_, _*_, _≤_, _<_}
 use native.Mathlib.Omega.{arith}
 use lib.ListN.{length, getD}
-use Rattle.tallies.specs.Tallies.{TalliedBy}
+use Rattle.tallies.specs.Tallies.{most-share, TalliedBy}
 use Rattle.tallies.proofs.TallyLaws.{tally-none, few-more, tallied-more}
 use Rattle.tallies.proofs.tally.tally.Statement.{statement}
 use Rattle.tallies.proofs.tally.tally.Tie as tie
 
 abbrev Inv-loop : tie.InvT-loop
-Inv-loop ends tallies₀ k n i₀ tallies i = (i ≤ k) × (length tallies ≡ length tallies₀) × ((g : ℕ) → g < n → getD tallies g 0 ≤ i * 511) × ((lives : List ℕ) → ((q : ℕ) → q < k → getD lives q 0 ≡ 1) → TalliedBy lives ends n i tallies)
+Inv-loop ends tallies₀ k n i₀ tallies i = (i ≤ k) × (length tallies ≡ length tallies₀) × ((g : ℕ) → g < n → getD tallies g 0 ≤ i * most-share) × ((lives : List ℕ) → ((q : ℕ) → q < k → getD lives q 0 ≡ 1) → TalliedBy lives ends n i tallies)
 
 abbrev μ-loop : tie.MeasureT-loop
 μ-loop ends tallies₀ k n i₀ tallies i = k - i

@@ -16,19 +16,16 @@ element-requires c κs = search needs
 left-of-requires : tie.Need-left-of-requires
 left-of-requires c κs = search needs
 
-element-requires-2 : tie.Need-element-requires-2
-element-requires-2 c κs = search needs
+add-t10 : tie.Need-add-t10
+add-t10 c = search needs
 
-product-requires : tie.Need-product-requires
-product-requires c κs = search needs
-
-add-t11 : tie.Need-add-t11
-add-t11 c = search needs
+wide-element-requires : tie.Need-wide-element-requires
+wide-element-requires c κs = search needs
 
 returns-2 : tie.Need-returns-2
 returns-2 c =
-    let a = c .before .before .before .before .before .before .before .args in
-    taken-rest (a .pairs) (a .widths .now) (a .gains .now) (a .self) _ _ _ _ (c .before .before .before .before .if1 .left) (c .before .before .before .element .ensures) (c .before .before .left-of .ensures) (c .before .element2 .ensures) (c .product .ensures)
+    let a = c .before .before .before .before .before .before .args in
+    taken-rest (a .pairs) (a .widths .now) (a .gains .now) (a .self) _ _ _ (c .before .before .before .if1 .left) (c .before .before .element .ensures) (c .before .left-of .ensures) (c .wide-element .ensures)
 
 pub rest-spec : {M : Type 1} → statement M
-rest-spec = tie.close (tie.spec returns element-requires left-of-requires element-requires-2 product-requires add-t11 returns-2)
+rest-spec = tie.close (tie.spec returns element-requires left-of-requires add-t10 wide-element-requires returns-2)

@@ -22,30 +22,27 @@ left-of-requires c κs = search needs
 smaller-requires : tie.Need-smaller-requires
 smaller-requires c κs = search needs
 
-element-requires-2 : tie.Need-element-requires-2
-element-requires-2 c κs = search needs
-
-product-requires : tie.Need-product-requires
-product-requires c κs = search needs
+wide-element-requires : tie.Need-wide-element-requires
+wide-element-requires c κs = search needs
 
 add-t14 : tie.Need-add-t14
 add-t14 c = search needs
 
 returns-2 : tie.Need-returns-2
 returns-2 c =
-    let a = c .before .before .before .before .before .before .before .before .before .args in
+    let a = c .before .before .before .before .before .before .before .before .args in
     taken-stays _ _ _ _ _ _ _ _
-    (computed (a .pairs) (a .widths .now) (a .gains .now) (a .self) (a .ticks) _ _ _ _ _
-    (c .before .before .before .before .before .before .if1 .left) (c .before .before .before .before .before .element .ensures) (c .before .before .before .before .left-of .ensures) (c .before .before .before .smaller .ensures) (c .before .before .element2 .ensures) (c .before .product .ensures))
+    (computed (a .pairs) (a .widths .now) (a .gains .now) (a .self) (a .ticks) _ _ _ _
+    (c .before .before .before .before .before .if1 .left) (c .before .before .before .before .element .ensures) (c .before .before .before .left-of .ensures) (c .before .before .smaller .ensures) (c .before .wide-element .ensures))
     (c .if2 .taken)
 
 returns-3 : tie.Need-returns-3
 returns-3 c =
-    let a = c .before .before .before .before .before .before .before .before .before .args in
+    let a = c .before .before .before .before .before .before .before .before .args in
     taken-moves _ _ _ _ _ _ _ _
-    (computed (a .pairs) (a .widths .now) (a .gains .now) (a .self) (a .ticks) _ _ _ _ _
-    (c .before .before .before .before .before .before .if1 .left) (c .before .before .before .before .before .element .ensures) (c .before .before .before .before .left-of .ensures) (c .before .before .before .smaller .ensures) (c .before .before .element2 .ensures) (c .before .product .ensures))
+    (computed (a .pairs) (a .widths .now) (a .gains .now) (a .self) (a .ticks) _ _ _ _
+    (c .before .before .before .before .before .if1 .left) (c .before .before .before .before .element .ensures) (c .before .before .before .left-of .ensures) (c .before .before .smaller .ensures) (c .before .wide-element .ensures))
     (c .if2 .left)
 
 pub take-spec : {M : Type 1} → statement M
-take-spec = tie.close (tie.spec returns add-next element-requires left-of-requires smaller-requires element-requires-2 product-requires add-t14 returns-2 returns-3)
+take-spec = tie.close (tie.spec returns add-next element-requires left-of-requires smaller-requires wide-element-requires add-t14 returns-2 returns-3)
