@@ -11,7 +11,7 @@ use lib.Seq.{getD-set-same}
 use Rattle.lists.specs.Over.{build}
 use Rattle.lists.proofs.Over.{length-build}
 use Rattle.model.specs.declared.Refusal.{Refusal}
-use Rattle.model.specs.Limits.{max-wires, max-gates}
+use Rattle.model.specs.Limits.{max-gates, max-wires}
 use Rattle.model.specs.Block.{Wire}
 use Rattle.model.specs.Edition.{wire-bytes, delay-in}
 use Rattle.model.specs.File.{wire, says, some, same-ends, found, refused, read-field, read-wires}

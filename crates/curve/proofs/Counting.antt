@@ -78,7 +78,7 @@ unfolding count-off
 counting-ends ps k next left earned c d = omega (arith, c .all, none d)
   where
     none : (left ≡ 0) ⊎ (length ps ≤ next .pair) → count-off (ahead ps next) left ≡ 0
-    none (inl e) = rw (e) (count-off-none (ahead ps next))
+    none (inl e) = rw e (count-off-none (ahead ps next))
     none (inr h) = rw (ahead-past ps next h)
 
 -- One turn of the loop, on a curve that two slices hold: t is what is taken of the pair at `next`.

@@ -208,7 +208,7 @@ module _ {E : ℕ → ℕ → Type 0} (free : LoopFree E) where
           let t = taken-step L a b m r (g .1) in
           ih (taken-away L m) (step-keeps free t r) (λ k l. all k (shrinks t .none-new k l)) (omega (arith, step-shrinks w all t))
 
-pub count-bound : (n : ℕ) (S : ℕ → Slot) → live-count n S ≤ n
+count-bound : (n : ℕ) (S : ℕ → Slot) → live-count n S ≤ n
 unfolding live-count
 count-bound zero S = omega arith
 count-bound (suc n) S = omega (arith, bit-le (S n .live) true (λ e. refl), count-bound n S)
