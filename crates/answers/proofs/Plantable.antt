@@ -5,21 +5,21 @@ use mathlib.Core.List.{List}
 use Prim.Native.Nat.{ℕ, ◌<◌}
 use native.Mathlib.Omega.{arith}
 use lib.ListN.{get_or}
-use Rattle.lists.proofs.Over.{getD-build}
+use Rattle.lists.proofs.Over.{getD_build}
 use Rattle.model.specs.Block.{Wire}
 use Rattle.model.specs.Part.{SeriesParallel}
 use Rattle.model.specs.Slack.{start}
-use Rattle.model.specs.Arrays.{wire-at}
+use Rattle.model.specs.Arrays.{wire_at}
 use Rattle.model.proofs.Slack.{start_is}
-use Rattle.model.proofs.Curve.{start-unique}
+use Rattle.model.proofs.Curve.{start_unique}
 use Rattle.blockfile.specs.Held.{GateArrays, WireArrays}
 use Rattle.loading.specs.HeldFile.{HeldFile}
-use Rattle.loading.proofs.Held.{wires-are}
-use Rattle.holding.proofs.HeldLaws.{block, count, the-limits, the_lent, some, along-all}
+use Rattle.loading.proofs.Held.{wires_are}
+use Rattle.holding.proofs.HeldLaws.{block, count, the_limits, the_lent, some, along_all}
 use Rattle.reduction.specs.Wired.{Wired}
-use Rattle.optimum.specs.BlockTree.{block-tree, start_of}
-use Rattle.optimum.proofs.BlockTree.{block-is-tree}
-use Rattle.optimum.proofs.Within.{start-is-start}
+use Rattle.optimum.specs.BlockTree.{block_tree, start_of}
+use Rattle.optimum.proofs.BlockTree.{block_is_tree}
+use Rattle.optimum.proofs.Within.{start_is_start}
 use Rattle.shaping.specs.PlantedBlock.{Given, WiresLong}
 use Rattle.shaping.proofs.Facts.{join}
 
@@ -29,28 +29,28 @@ module _ {file : List ℕ} {n m arrival deadline activity : ℕ} {G : GateArrays
   wires =
       record {
         gates = count h;
-        count = wires-are file n m arrival deadline activity G W h.well.end h.well.reads;
-        source = λ i l. sym (ap (λ (w : Wire). w.source) (wire-is i l));
-        target = λ i l. sym (ap (λ (w : Wire). w.target) (wire-is i l));
-        delay = λ i l. sym (ap (λ (w : Wire). w.delay) (wire-is i l));
+        count = wires_are file n m arrival deadline activity G W h.well.end h.well.reads;
+        source = λ i l. sym (ap (λ (w : Wire). w.source) (wire_is i l));
+        target = λ i l. sym (ap (λ (w : Wire). w.target) (wire_is i l));
+        delay = λ i l. sym (ap (λ (w : Wire). w.delay) (wire_is i l));
       }
     where
-      wire-is : (i : ℕ) → i < m → get_or (block h).wires i (record { source = 0; target = 0; delay = 0 }) ≡ wire-at W.sources W.targets W.delays i
-      wire-is i l = getD-build m (wire-at W.sources W.targets W.delays) i (record { source = 0; target = 0; delay = 0 }) l
+      wire_is : (i : ℕ) → i < m → get_or (block h).wires i (record { source = 0; target = 0; delay = 0 }) ≡ wire_at W.sources W.targets W.delays i
+      wire_is i l = getD_build m (wire_at W.sources W.targets W.delays) i (record { source = 0; target = 0; delay = 0 }) l
 
   pub given : Given (block h) n m W.sources W.targets W.delays
-  given = record { limits = the-limits h; sound = h.well.network; wired = wires }
+  given = record { limits = the_limits h; sound = h.well.network; wired = wires }
 
-  pub wires-long : WiresLong m W.sources W.targets W.delays
-  wires-long =
+  pub wires_long : WiresLong m W.sources W.targets W.delays
+  wires_long =
       record {
-        sources-long = omega (arith, (the_lent h).wires, h.sources-long);
-        targets-long = omega (arith, (the_lent h).wires, h.targets-long);
-        delays-long = omega (arith, (the_lent h).wires, h.wire-delays-long);
+        sources_long = omega (arith, (the_lent h).wires, h.sources_long);
+        targets_long = omega (arith, (the_lent h).wires, h.targets_long);
+        delays_long = omega (arith, (the_lent h).wires, h.wire_delays_long);
       }
 
   -- the tree lasts as long as the longest path
-  pub start-same : (sp : SeriesParallel (block h)) → start_of (block h) (block-tree (block h) sp) ≡ start (block h)
-  start-same sp =
-      start-unique (block h) _ _ (start-is-start (block h) (block-tree (block h) sp) (block-is-tree (block h) sp (join (block h) (the-limits h) h.well.network)))
-      (start_is (block h) h.well.network (along-all h) (omega (arith, count h, some h)))
+  pub start_same : (sp : SeriesParallel (block h)) → start_of (block h) (block_tree (block h) sp) ≡ start (block h)
+  start_same sp =
+      start_unique (block h) _ _ (start_is_start (block h) (block_tree (block h) sp) (block_is_tree (block h) sp (join (block h) (the_limits h) h.well.network)))
+      (start_is (block h) h.well.network (along_all h) (omega (arith, count h, some h)))

@@ -1,7 +1,7 @@
 // The best increases of a well-formed file's block, which is in the arrays: refusals 11 and 12, or what is found.
 ghost use Rattle.std.specs.Prelude.{List, ℕ, ◌≤◌, length};
-ghost use Rattle.model.specs.Answer.{BestLines, best-answer};
-ghost use Rattle.blockfile.specs.Held.{gate-arrays, wire-arrays};
+ghost use Rattle.model.specs.Answer.{BestLines, best_answer};
+ghost use Rattle.blockfile.specs.Held.{gate_arrays, wire_arrays};
 ghost use Rattle.loading.specs.Loads.{block_held};
 ghost use Rattle.loading.specs.HeldFile.{HeldFile};
 
@@ -32,9 +32,9 @@ pub fn best_held(
     order: &[u32],
     increases: &mut [u32],
 ) -> BestAnswer
-    requires by_index { (file : List ℕ) × HeldFile file n m arrival deadline activity (gate-arrays delays.now activities.now counts.now step_widths.now drops.now) (wire-arrays sources.now targets.now wire_delays.now) order.now }
+    requires by_index { (file : List ℕ) × HeldFile file n m arrival deadline activity (gate_arrays delays.now activities.now counts.now step_widths.now drops.now) (wire_arrays sources.now targets.now wire_delays.now) order.now }
     requires n_in_bounds { n ≤ length increases.old }
-    ensures { (file : List ℕ) → HeldFile file n m arrival deadline activity (gate-arrays delays.now activities.now counts.now step_widths.now drops.now) (wire-arrays sources.now targets.now wire_delays.now) order.now → BestLines (block_held n m arrival deadline activity (gate-arrays delays.now activities.now counts.now step_widths.now drops.now) (wire-arrays sources.now targets.now wire_delays.now)) increases.old (record { answer = best-answer result; memory = increases.new }) }
+    ensures { (file : List ℕ) → HeldFile file n m arrival deadline activity (gate_arrays delays.now activities.now counts.now step_widths.now drops.now) (wire_arrays sources.now targets.now wire_delays.now) order.now → BestLines (block_held n m arrival deadline activity (gate_arrays delays.now activities.now counts.now step_widths.now drops.now) (wire_arrays sources.now targets.now wire_delays.now)) increases.old (record { answer = best_answer result; memory = increases.new }) }
 {
     let mut tree = [0u32; TREE_WORDS];
     let planted = plant_block(n, m, sources, targets, wire_delays, &mut tree);

@@ -1,8 +1,8 @@
 // The curve of a well-formed file's block, which is in the arrays: refusal 11, or what is found.
 ghost use Rattle.std.specs.Prelude.{List, ℕ, ◌≤◌, length};
-ghost use Rattle.model.specs.Limits.{max-pairs};
-ghost use Rattle.model.specs.Answer.{CurveLines, CurveBounds, curve-answer};
-ghost use Rattle.blockfile.specs.Held.{gate-arrays, wire-arrays};
+ghost use Rattle.model.specs.Limits.{max_pairs};
+ghost use Rattle.model.specs.Answer.{CurveLines, CurveBounds, curve_answer};
+ghost use Rattle.blockfile.specs.Held.{gate_arrays, wire_arrays};
 ghost use Rattle.loading.specs.Loads.{block_held};
 ghost use Rattle.loading.specs.HeldFile.{HeldFile};
 
@@ -32,9 +32,9 @@ pub fn curve_held(
     widths: &mut [u32],
     gains: &mut [u64],
 ) -> CurveAnswer
-    requires by_index { (file : List ℕ) × (arrival : ℕ) × (deadline : ℕ) × HeldFile file n m arrival deadline activity (gate-arrays delays.now activities.now counts.now step_widths.now drops.now) (wire-arrays sources.now targets.now wire_delays.now) order.now }
-    requires max_pairs_in_bounds { (max-pairs ≤ length widths.old) × (max-pairs ≤ length gains.old) }
-    ensures by_index_2 { (file : List ℕ) (arrival deadline : ℕ) → HeldFile file n m arrival deadline activity (gate-arrays delays.now activities.now counts.now step_widths.now drops.now) (wire-arrays sources.now targets.now wire_delays.now) order.now → CurveLines (block_held n m arrival deadline activity (gate-arrays delays.now activities.now counts.now step_widths.now drops.now) (wire-arrays sources.now targets.now wire_delays.now)) (record { for-widths = widths.old; for-gains = gains.old }) (record { answer = curve-answer result; memory = record { for-widths = widths.new; for-gains = gains.new } }) }
+    requires by_index { (file : List ℕ) × (arrival : ℕ) × (deadline : ℕ) × HeldFile file n m arrival deadline activity (gate_arrays delays.now activities.now counts.now step_widths.now drops.now) (wire_arrays sources.now targets.now wire_delays.now) order.now }
+    requires max_pairs_in_bounds { (max_pairs ≤ length widths.old) × (max_pairs ≤ length gains.old) }
+    ensures by_index_2 { (file : List ℕ) (arrival deadline : ℕ) → HeldFile file n m arrival deadline activity (gate_arrays delays.now activities.now counts.now step_widths.now drops.now) (wire_arrays sources.now targets.now wire_delays.now) order.now → CurveLines (block_held n m arrival deadline activity (gate_arrays delays.now activities.now counts.now step_widths.now drops.now) (wire_arrays sources.now targets.now wire_delays.now)) (record { for_widths = widths.old; for_gains = gains.old }) (record { answer = curve_answer result; memory = record { for_widths = widths.new; for_gains = gains.new } }) }
     ensures curve_bounds { CurveBounds result gains.new }
 {
     let mut tree = [0u32; TREE_WORDS];

@@ -1,13 +1,13 @@
 // A block file read into lent arrays, one field after another: refusals 1 to 7.
 // `read_block` is public for the crates above, which lend the arrays.
 ghost use Rattle.std.specs.Prelude.{◌≡◌, List, [], map, ◌<◌, ◌≤◌, length};
-ghost use Rattle.model.specs.Limits.{max-gates, max-wires};
+ghost use Rattle.model.specs.Limits.{max_gates, max_wires};
 ghost use Rattle.model.specs.Activity as Activity;
 ghost use Rattle.model.specs.Block.{Wire};
-ghost use Rattle.model.specs.Netlist.{gate-of};
-ghost use Rattle.model.specs.File.{read-gates, read-wires, read-block};
-ghost use Rattle.blockfile.specs.Held.{gate-arrays, gates-held, GateRoom, wire-arrays, WireRoom};
-ghost use Rattle.blockfile.specs.Reads.{GateRead, WireRead, passing, reading-map, wires-passing, said_of, block-passing};
+ghost use Rattle.model.specs.Netlist.{gate_of};
+ghost use Rattle.model.specs.File.{read_gates, read_wires, read_block};
+ghost use Rattle.blockfile.specs.Held.{gate_arrays, gates_held, GateRoom, wire_arrays, WireRoom};
+ghost use Rattle.blockfile.specs.Reads.{GateRead, WireRead, passing, reading_map, wires_passing, said_of, block_passing};
 ghost use Rattle.ranges.specs.Seen.{pairs, Marks};
 
 use crate::store::store_gate;
@@ -60,10 +60,10 @@ fn read_gate(
     drops: &mut [u32],
     table: &ActivityTable,
 ) -> FieldRead
-    requires gate_lt_max_gates { gate < max-gates }
-    requires gate_room { GateRoom (gate-arrays delays.old activities.old counts.old step_widths.old drops.old) }
+    requires gate_lt_max_gates { gate < max_gates }
+    requires gate_room { GateRoom (gate_arrays delays.old activities.old counts.old step_widths.old drops.old) }
     requires table_value { table.now ≡ Activity.activities }
-    ensures { GateRead file.now offset edition gate (gate-arrays delays.old activities.old counts.old step_widths.old drops.old) (gate-arrays delays.new activities.new counts.new step_widths.new drops.new) result }
+    ensures { GateRead file.now offset edition gate (gate_arrays delays.old activities.old counts.old step_widths.old drops.old) (gate_arrays delays.new activities.new counts.new step_widths.new drops.new) result }
 {
     let body = due_body(file, offset);
     let fault = gate_fault(due_field(file, offset), body, edition);
@@ -98,10 +98,10 @@ fn read_gates(
     drops: &mut [u32],
     table: &ActivityTable,
 ) -> FieldRead
-    requires gates_le_max_gates { gates ≤ max-gates }
-    requires gate_room { GateRoom (gate-arrays delays.old activities.old counts.old step_widths.old drops.old) }
+    requires gates_le_max_gates { gates ≤ max_gates }
+    requires gate_room { GateRoom (gate_arrays delays.old activities.old counts.old step_widths.old drops.old) }
     requires table_value { table.now ≡ Activity.activities }
-    ensures { passing result (gates-held (gate-arrays delays.new activities.new counts.new step_widths.new drops.new) gates) ≡ reading-map (map (gate-of edition)) (read-gates edition gates file.now start) }
+    ensures { passing result (gates_held (gate_arrays delays.new activities.new counts.new step_widths.new drops.new) gates) ≡ reading_map (map (gate_of edition)) (read_gates edition gates file.now start) }
 {
     let mut offset = start;
     let mut gate = 0;
@@ -143,10 +143,10 @@ fn read_wire(
     wire_delays: &mut [u32],
     seen: &mut [u8],
 ) -> FieldRead
-    requires gates_le_max_gates { (gates ≤ max-gates) × (wire < max-wires) }
-    requires wire_room { WireRoom (wire-arrays sources.old targets.old wire_delays.old) }
+    requires gates_le_max_gates { (gates ≤ max_gates) × (wire < max_wires) }
+    requires wire_room { WireRoom (wire_arrays sources.old targets.old wire_delays.old) }
     requires pairs_in_bounds { (pairs ≤ length seen.old) × ((ws : List Wire) × Marks seen.old ws) }
-    ensures { WireRead file.now offset edition gates wire (wire-arrays sources.old targets.old wire_delays.old) (wire-arrays sources.new targets.new wire_delays.new) seen.old seen.new result }
+    ensures { WireRead file.now offset edition gates wire (wire_arrays sources.old targets.old wire_delays.old) (wire_arrays sources.new targets.new wire_delays.new) seen.old seen.new result }
 {
     let body = due_body(file, offset);
     let fault = wire_fault(due_field(file, offset), body, edition, gates, seen);
@@ -173,10 +173,10 @@ fn read_wires(
     wire_delays: &mut [u32],
     seen: &mut [u8],
 ) -> WiresRead
-    requires start_in_bounds { (start ≤ length file.now) × (gates ≤ max-gates) }
-    requires wire_room { WireRoom (wire-arrays sources.old targets.old wire_delays.old) }
+    requires start_in_bounds { (start ≤ length file.now) × (gates ≤ max_gates) }
+    requires wire_room { WireRoom (wire_arrays sources.old targets.old wire_delays.old) }
     requires pairs_in_bounds { (pairs ≤ length seen.old) × Marks seen.old [] }
-    ensures { wires-passing file.now result (wire-arrays sources.new targets.new wire_delays.new) ≡ read-wires max-wires edition gates [] file.now start }
+    ensures { wires_passing file.now result (wire_arrays sources.new targets.new wire_delays.new) ≡ read_wires max_wires edition gates [] file.now start }
 {
     let mut offset = start;
     let mut wires = 0;
@@ -239,10 +239,10 @@ pub fn read_block(
     wire_delays: &mut [u32],
     seen: &mut [u8],
 ) -> BlockRead
-    requires gate_room { GateRoom (gate-arrays delays.old activities.old counts.old step_widths.old drops.old) }
-    requires wire_room { WireRoom (wire-arrays sources.old targets.old wire_delays.old) }
+    requires gate_room { GateRoom (gate_arrays delays.old activities.old counts.old step_widths.old drops.old) }
+    requires wire_room { WireRoom (wire_arrays sources.old targets.old wire_delays.old) }
     requires pairs_in_bounds { (pairs ≤ length seen.old) × Marks seen.old [] }
-    ensures { block-passing file.now result (gate-arrays delays.new activities.new counts.new step_widths.new drops.new) (wire-arrays sources.new targets.new wire_delays.new) ≡ read-block file.now }
+    ensures { block_passing file.now result (gate_arrays delays.new activities.new counts.new step_widths.new drops.new) (wire_arrays sources.new targets.new wire_delays.new) ≡ read_block file.now }
 {
     let table = activity_table();
     let body = due_body(file, 0);

@@ -1,8 +1,8 @@
 // Storing what a gate's body says, in arrays: gate g at place g, step j of gate g at place 8 g + j.
 ghost use Rattle.std.specs.Prelude.{◌≡◌, true, ℕ, ◌*◌, ◌<◌, ◌≤◌, ◌%◌, length};
-ghost use Rattle.model.specs.Limits.{max-gates, max-steps};
+ghost use Rattle.model.specs.Limits.{max_gates, max_steps};
 ghost use Rattle.model.specs.File as File;
-ghost use Rattle.blockfile.specs.Held.{GateRoom, StepsStored, GateStored, gate-arrays};
+ghost use Rattle.blockfile.specs.Held.{GateRoom, StepsStored, GateStored, gate_arrays};
 
 use fields::field::number_at;
 use model::limits::MAX_STEPS;
@@ -10,9 +10,9 @@ use ranges::limits::{GATE_BYTES, STEP_BYTES};
 
 // Stores the steps of a gate, and answers how many they are.
 pub fn store_steps(steps: &[u8], gate: usize, step_widths: &mut [u32], drops: &mut [u32]) -> u32
-    requires steps_len { (length steps.now % 4 ≡ 0) × (length steps.now ≤ 4 * max-steps) }
-    requires gate_lt_max_gates { gate < max-gates }
-    requires max_steps_in_bounds { (max-gates * max-steps ≤ length step_widths.old) × (max-gates * max-steps ≤ length drops.old) }
+    requires steps_len { (length steps.now % 4 ≡ 0) × (length steps.now ≤ 4 * max_steps) }
+    requires gate_lt_max_gates { gate < max_gates }
+    requires max_steps_in_bounds { (max_gates * max_steps ≤ length step_widths.old) × (max_gates * max_steps ≤ length drops.old) }
     ensures { StepsStored steps.now gate result step_widths.old drops.old step_widths.new drops.new }
 {
     let count = steps.len() / STEP_BYTES;
@@ -37,10 +37,10 @@ pub fn store_gate(
     step_widths: &mut [u32],
     drops: &mut [u32],
 )
-    requires by_index { (edition : ℕ) × (File.length-fits (File.gate edition) (length body.now) ≡ true) }
-    requires gate_lt_max_gates { gate < max-gates }
-    requires gate_room { GateRoom (gate-arrays delays.old activities.old counts.old step_widths.old drops.old) }
-    ensures { GateStored body.now activity gate (gate-arrays delays.old activities.old counts.old step_widths.old drops.old) (gate-arrays delays.new activities.new counts.new step_widths.new drops.new) }
+    requires by_index { (edition : ℕ) × (File.length_fits (File.gate edition) (length body.now) ≡ true) }
+    requires gate_lt_max_gates { gate < max_gates }
+    requires gate_room { GateRoom (gate_arrays delays.old activities.old counts.old step_widths.old drops.old) }
+    ensures { GateStored body.now activity gate (gate_arrays delays.old activities.old counts.old step_widths.old drops.old) (gate_arrays delays.new activities.new counts.new step_widths.new drops.new) }
 {
     delays[gate] = number_at(body, 0);
     activities[gate] = activity;

@@ -7,10 +7,10 @@ use Rattle.text.specs.Written.{block_room}
 
 -- The block B of n gates is in time, and the first n elements of the list are increases that save `saved`.
 pub record Sized (B : Block) (n saved : ℕ) (increases : List ℕ) : Type 0 where
-  pub in-time : B.arrival + start B ≤ B.deadline
+  pub in_time : B.arrival + start B ≤ B.deadline
   pub long : n ≤ length increases
   pub saves : saving B (take n increases) ≡ saved
 
 -- the bytes that are enough for the printout of any file
-abbrev pub printout-room : ℕ
-printout-room = block_room
+abbrev pub printout_room : ℕ
+printout_room = block_room

@@ -1,11 +1,11 @@
 // The printout of a block that is in the arrays, with increases.
 ghost use Rattle.std.specs.Prelude.{List, ℕ, ◌≤◌, length, take};
-ghost use Rattle.model.specs.Printout.{block-lines};
-ghost use Rattle.blockfile.specs.Held.{gate-arrays, wire-arrays};
+ghost use Rattle.model.specs.Printout.{block_lines};
+ghost use Rattle.blockfile.specs.Held.{gate_arrays, wire_arrays};
 ghost use Rattle.loading.specs.Loads.{block_held};
 ghost use Rattle.loading.specs.HeldFile.{HeldFile};
 ghost use Rattle.text.specs.Written.{Written};
-ghost use Rattle.blocktext.specs.Shown.{Sized, printout-room};
+ghost use Rattle.blocktext.specs.Shown.{Sized, printout_room};
 
 use model::limits::MAX_GATES;
 use text::lines::{Head, write_block};
@@ -32,10 +32,10 @@ pub fn print_block(
     increases: &[u32],
     out: &mut [u8],
 ) -> usize
-    requires by_index { (file : List ℕ) × HeldFile file n m arrival deadline activity (gate-arrays delays.now activities.now counts.now step_widths.now drops.now) (wire-arrays sources.now targets.now wire_delays.now) order.now }
-    requires sized { Sized (block_held n m arrival deadline activity (gate-arrays delays.now activities.now counts.now step_widths.now drops.now) (wire-arrays sources.now targets.now wire_delays.now)) n saving increases.now }
-    requires printout_room_in_bounds { printout-room ≤ length out.old }
-    ensures { Written (block-lines (block_held n m arrival deadline activity (gate-arrays delays.now activities.now counts.now step_widths.now drops.now) (wire-arrays sources.now targets.now wire_delays.now)) (take n increases.now)) 0 out.old out.new result }
+    requires by_index { (file : List ℕ) × HeldFile file n m arrival deadline activity (gate_arrays delays.now activities.now counts.now step_widths.now drops.now) (wire_arrays sources.now targets.now wire_delays.now) order.now }
+    requires sized { Sized (block_held n m arrival deadline activity (gate_arrays delays.now activities.now counts.now step_widths.now drops.now) (wire_arrays sources.now targets.now wire_delays.now)) n saving increases.now }
+    requires printout_room_in_bounds { printout_room ≤ length out.old }
+    ensures { Written (block_lines (block_held n m arrival deadline activity (gate_arrays delays.now activities.now counts.now step_widths.now drops.now) (wire_arrays sources.now targets.now wire_delays.now)) (take n increases.now)) 0 out.old out.new result }
 {
     let start = start_time(n, m, order, sources, targets, wire_delays, delays);
     let spare = deadline - (arrival + start);

@@ -1,8 +1,8 @@
 // The words of a block filled from an array for each kind of numbers.
 ghost use Rattle.std.specs.Prelude.{◌≡◌, ◌<◌, ◌≤◌, get_or, length};
-ghost use Rattle.model.specs.Limits.{max-gates, max-steps};
+ghost use Rattle.model.specs.Limits.{max_gates, max_steps};
 ghost use Rattle.blockwords.specs.BlockWords.{block_words};
-ghost use Rattle.blockwords.specs.Gathered.{Gatherable, Gathered, with-step, with-numbers, StepsWritten, GateWritten};
+ghost use Rattle.blockwords.specs.Gathered.{Gatherable, Gathered, with_step, with_numbers, StepsWritten, GateWritten};
 
 use crate::{BlockWords, GATE_COUNT, INPUTS, STEP_COUNTS, STEP_DROPS, STEP_WIDTHS};
 use model::limits::{GateNumbers, MAX_STEPS, StepNumbers};
@@ -15,8 +15,8 @@ fn gather_step(
     drops: &StepNumbers,
     block: &mut BlockWords,
 )
-    requires { (g < max-gates) × (j < max-steps) }
-    ensures { block.new ≡ with-step g j step_widths.now drops.now block.old }
+    requires { (g < max_gates) × (j < max_steps) }
+    ensures { block.new ≡ with_step g j step_widths.now drops.now block.old }
 {
     let place = (g as usize) * MAX_STEPS + (j as usize);
     block[place + STEP_WIDTHS] = step_widths[place];
@@ -31,7 +31,7 @@ fn gather_steps(
     drops: &StepNumbers,
     block: &mut BlockWords,
 )
-    requires { (g < max-gates) × (count ≤ max-steps) × (block_words ≤ length block.old) }
+    requires { (g < max_gates) × (count ≤ max_steps) × (block_words ≤ length block.old) }
     ensures { StepsWritten g count step_widths.now drops.now block.old block.new }
 {
     let mut j: u32 = 0;
@@ -43,8 +43,8 @@ fn gather_steps(
 
 // Writes the number of steps and the input activity of gate g to their places.
 fn gather_numbers(g: u32, counts: &GateNumbers, inputs: &GateNumbers, block: &mut BlockWords)
-    requires { g < max-gates }
-    ensures { block.new ≡ with-numbers g counts.now inputs.now block.old }
+    requires { g < max_gates }
+    ensures { block.new ≡ with_numbers g counts.now inputs.now block.old }
 {
     let i = g as usize;
     block[i + STEP_COUNTS] = counts[i];
@@ -60,7 +60,7 @@ fn gather_gate(
     inputs: &GateNumbers,
     block: &mut BlockWords,
 )
-    requires { (g < max-gates) × (get_or counts.now g 0 ≤ max-steps) × (block_words ≤ length block.old) }
+    requires { (g < max_gates) × (get_or counts.now g 0 ≤ max_steps) × (block_words ≤ length block.old) }
     ensures { GateWritten g counts.now step_widths.now drops.now inputs.now block.old block.new }
 {
     gather_numbers(g, counts, inputs, block);

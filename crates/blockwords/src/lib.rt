@@ -2,9 +2,9 @@
 pub mod gathering;
 
 ghost use Rattle.std.specs.Prelude.{◌≡◌, ◌+◌, ◌≤◌, ◌<◌, get_or};
-ghost use Rattle.model.specs.Limits.{max-gates, max-steps};
-ghost use Rattle.model.specs.Arrays.{step-place};
-ghost use Rattle.blockwords.specs.BlockWords.{drops-from, gates-held, counts_of, widths-of, drops-of, inputs-of};
+ghost use Rattle.model.specs.Limits.{max_gates, max_steps};
+ghost use Rattle.model.specs.Arrays.{step_place};
+ghost use Rattle.blockwords.specs.BlockWords.{drops_from, gates_held, counts_of, widths_of, drops_of, inputs_of};
 
 use model::limits::{MAX_GATES, MAX_PAIRS, MAX_STEPS};
 
@@ -26,14 +26,14 @@ pub type BlockWords = [u32; BLOCK_WORDS];
 
 // The number of gates.
 pub fn gate_count(block: &BlockWords) -> u32
-    ensures { result ≡ gates-held block.now }
+    ensures { result ≡ gates_held block.now }
 {
     block[GATE_COUNT]
 }
 
 // The number of steps of gate g.
 pub fn step_count(block: &BlockWords, g: u32) -> u32
-    requires { g < max-gates }
+    requires { g < max_gates }
     ensures { result ≡ get_or (counts_of block.now) g 0 }
 {
     block[(g as usize) + STEP_COUNTS]
@@ -41,33 +41,33 @@ pub fn step_count(block: &BlockWords, g: u32) -> u32
 
 // The number of step j of gate g among those that begin at word `from`.
 fn step_number(block: &BlockWords, from: usize, g: u32, j: u32) -> u32
-    requires g_lt_max_gates { (g < max-gates) × (j < max-steps) }
-    requires from_le_drops_from { from ≤ drops-from }
-    ensures { result ≡ get_or block.now (step-place g j + from) 0 }
+    requires g_lt_max_gates { (g < max_gates) × (j < max_steps) }
+    requires from_le_drops_from { from ≤ drops_from }
+    ensures { result ≡ get_or block.now (step_place g j + from) 0 }
 {
     block[(g as usize) * MAX_STEPS + (j as usize) + from]
 }
 
 // The width of step j of gate g.
 pub fn step_width(block: &BlockWords, g: u32, j: u32) -> u32
-    requires { (g < max-gates) × (j < max-steps) }
-    ensures { result ≡ get_or (widths-of block.now) (step-place g j) 0 }
+    requires { (g < max_gates) × (j < max_steps) }
+    ensures { result ≡ get_or (widths_of block.now) (step_place g j) 0 }
 {
     step_number(block, STEP_WIDTHS, g, j)
 }
 
 // The drop of step j of gate g.
 pub fn step_drop(block: &BlockWords, g: u32, j: u32) -> u32
-    requires { (g < max-gates) × (j < max-steps) }
-    ensures { result ≡ get_or (drops-of block.now) (step-place g j) 0 }
+    requires { (g < max_gates) × (j < max_steps) }
+    ensures { result ≡ get_or (drops_of block.now) (step_place g j) 0 }
 {
     step_number(block, STEP_DROPS, g, j)
 }
 
 // The input activity of gate g.
 pub fn input_of(block: &BlockWords, g: u32) -> u32
-    requires { g < max-gates }
-    ensures { result ≡ get_or (inputs-of block.now) g 0 }
+    requires { g < max_gates }
+    ensures { result ≡ get_or (inputs_of block.now) g 0 }
 {
     block[(g as usize) + INPUTS]
 }

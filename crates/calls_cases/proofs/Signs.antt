@@ -14,5 +14,5 @@ natural : (x : ℤ) → SFits w32 x → lt_z x (pos 0) ≡ false → T (non_neg 
 natural (pos n) f l = (tt, record { fits = omega (arith, f.sfits) })
 natural (negsuc n) f l = absurd (true≢false l)
 
-pub natural-cast : (x : ℤ) → SFits w32 x → lt_z (to_z w32 (of_z w32 x)) (pos 0) ≡ false → T (non_neg (to_z w32 (of_z w32 x))) × Fits w64 (nat_abs (to_z w32 (of_z w32 x)))
-natural-cast x f l = let e = to_z-of_z w32 x f in rw e (natural x f (rw e at l))
+pub natural_cast : (x : ℤ) → SFits w32 x → lt_z (to_z w32 (of_z w32 x)) (pos 0) ≡ false → T (non_neg (to_z w32 (of_z w32 x))) × Fits w64 (nat_abs (to_z w32 (of_z w32 x)))
+natural_cast x f l = let e = to_z-of_z w32 x f in rw e (natural x f (rw e at l))

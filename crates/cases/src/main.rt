@@ -1,7 +1,7 @@
 // Runs the five calls on stored block files, and prints what they answer. host/CASES.md describes the input and the output.
 // Numbers and refusals come first, each printed with a blank in front; then the calls that write to lent slices, whose arrays hold a mark in every element before a call; then the fewest ticks; then judging; then the records.
 ghost use Rattle.std.specs.Prelude.{◌≡◌, ◌+◌, ◌*◌, ◌≤◌, length};
-ghost use Rattle.model.specs.Limits.{max-gates, max-pairs};
+ghost use Rattle.model.specs.Limits.{max_gates, max_pairs};
 
 use fields::field::{number_at, wide};
 use libc::STDOUT_FILENO;
@@ -194,7 +194,7 @@ fn lend_slacks(file: &[u8], lent: usize, out: &mut [i32]) -> usize
 
 // The slacks, with so many elements lent. Answers the number of gates, 0 for a refusal.
 fn run_slacks(file: &[u8], lent: usize) -> usize
-    requires { lent ≤ max-gates + 4 }
+    requires { lent ≤ max_gates + 4 }
 {
     let mut out = [SLACK_MARK; LENT];
     lend_slacks(file, lent, &mut out)
@@ -233,7 +233,7 @@ fn lend_curve(
 
 // The curve, with so many elements lent for widths and for gains.
 fn run_curve(file: &[u8], lent_widths: usize, lent_gains: usize)
-    requires { (lent_widths ≤ max-pairs + 8) × (lent_gains ≤ max-pairs + 8) }
+    requires { (lent_widths ≤ max_pairs + 8) × (lent_gains ≤ max_pairs + 8) }
 {
     let mut widths = [MARK; LENT_PAIRS];
     let mut gains = [GAIN_MARK; LENT_PAIRS];

@@ -1,6 +1,6 @@
 // A position on a curve, by value: each taking of ticks hands back the next position, the ticks taken and the gain of each.
 ghost use Rattle.std.specs.Prelude.{◌≡◌, ◌+◌};
-ghost use Rattle.curve.specs.Position.{pairs-in, at_front, left_at, taken_at};
+ghost use Rattle.curve.specs.Position.{pairs_in, at_front, left_at, taken_at};
 
 use crate::number::{element, left_of, smaller, wide_element};
 
@@ -29,7 +29,7 @@ impl Position {
 
     // At most `ticks` ticks of the pair that the position stands in; none past the end.
     pub fn take(self, widths: &[u32], gains: &[u64], pairs: usize, ticks: u32) -> Taken
-        ensures { result ≡ taken_at (pairs-in pairs widths.now gains.now) self ticks }
+        ensures { result ≡ taken_at (pairs_in pairs widths.now gains.now) self ticks }
     {
         let pair = self.pair;
         let used = self.used;
@@ -66,7 +66,7 @@ impl Position {
 
     // All that is left of the pair that the position stands in, and on to the next pair: what one tick more than is left takes. None past the end.
     pub fn rest(self, widths: &[u32], gains: &[u64], pairs: usize) -> Taken
-        ensures { result ≡ taken_at (pairs-in pairs widths.now gains.now) self (left_at (pairs-in pairs widths.now gains.now) self + 1) }
+        ensures { result ≡ taken_at (pairs_in pairs widths.now gains.now) self (left_at (pairs_in pairs widths.now gains.now) self + 1) }
     {
         let pair = self.pair;
         let used = self.used;

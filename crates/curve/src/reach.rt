@@ -1,9 +1,9 @@
 // The fewest ticks, counted off the front of a curve, that reach a wanted saving.
 ghost use Rattle.std.specs.Prelude.{ℕ, ◌*◌, ◌^◌, ◌≤◌, ◌<◌};
 ghost use Rattle.lists.specs.Search.{Lowest};
-ghost use Rattle.model.specs.Limits.{max-pairs};
-ghost use Rattle.model.specs.Curve.{all-ticks, count-off};
-ghost use Rattle.curve.specs.Position.{pairs-in};
+ghost use Rattle.model.specs.Limits.{max_pairs};
+ghost use Rattle.model.specs.Curve.{all_ticks, count_off};
+ghost use Rattle.curve.specs.Position.{pairs_in};
 ghost use Rattle.curve.specs.Reach.{Reaches};
 
 use crate::position::Position;
@@ -28,8 +28,8 @@ fn ticks_of(gain: u64, need: u64) -> u64
 // The fewest ticks with which the saving at start and what the ticks earn, counted off the front of the curve of `pairs` pairs, come to the wanted saving.
 // Public for `reaching` alone: the pairs that it has are those of a curve, so that the ticks, and all that they earn, fit.
 pub fn ticks_for(widths: &[u32], gains: &[u64], pairs: usize, at_start: u64, wanted: u64) -> Reach
-    requires { (pairs ≤ max-pairs) × (count-off (pairs-in pairs widths.now gains.now) (all-ticks (pairs-in pairs widths.now gains.now)) < 2 ^ 64) }
-    ensures { Reaches (pairs-in pairs widths.now gains.now) at_start wanted result }
+    requires { (pairs ≤ max_pairs) × (count_off (pairs_in pairs widths.now gains.now) (all_ticks (pairs_in pairs widths.now gains.now)) < 2 ^ 64) }
+    ensures { Reaches (pairs_in pairs widths.now gains.now) at_start wanted result }
 {
     if wanted <= at_start {
         return Reach::Ticks(0);

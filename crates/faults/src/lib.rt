@@ -1,10 +1,10 @@
 // The number of a field's refusal, 0 if it has none, in document 01's order: short header (1), tag (2), length (3), short body (1), range (4), drops (5), wire (6).
 // Public for `blockfile` alone.
 ghost use Rattle.std.specs.Prelude.{◌≡◌, List, ◌≤◌, eqb, length};
-ghost use Rattle.model.specs.Limits.{max-gates};
+ghost use Rattle.model.specs.Limits.{max_gates};
 ghost use Rattle.model.specs.Block.{Wire};
-ghost use Rattle.model.specs.File.{block, gate, wire, tag_of, length-fits, unless, fault-of};
-ghost use Rattle.model.specs.Answer.{refusal, refusal-answer};
+ghost use Rattle.model.specs.File.{block, gate, wire, tag_of, length_fits, unless, fault_of};
+ghost use Rattle.model.specs.Answer.{refusal, refusal_answer};
 ghost use Rattle.ranges.specs.Kinds.{kind};
 ghost use Rattle.faults.specs.Shape.{shape_of};
 ghost use Rattle.ranges.specs.Seen.{pairs, Marks};
@@ -17,7 +17,7 @@ use ranges::seen::is_fresh;
 
 // 2 for another tag than the one due, 3 for a length that it does not have, else what follows these tests.
 fn tag_fault(due: Due, tag: u8, length: usize, further: u32) -> u32
-    ensures { result ≡ unless (eqb tag (tag_of (kind due))) 2 (unless (length-fits (kind due) length) 3 further) }
+    ensures { result ≡ unless (eqb tag (tag_of (kind due))) 2 (unless (length_fits (kind due) length) 3 further) }
 {
     let due_tag = tag == tag_of(due);
     let due_length = length_fits(due, length);
@@ -50,7 +50,7 @@ fn shape_fault(due: Due, field: Field, length: usize) -> u32
 
 // The fault of a field with its body where the block is due.
 pub fn block_fault(field: Field, body: &[u8]) -> u32
-    ensures { result ≡ fault-of block field body.now }
+    ensures { result ≡ fault_of block field body.now }
 {
     let shape = shape_fault(Due::Block, field, body.len());
     if shape != 0 {
@@ -64,7 +64,7 @@ pub fn block_fault(field: Field, body: &[u8]) -> u32
 
 // The fault of a field with its body where a gate is due.
 pub fn gate_fault(field: Field, body: &[u8], edition: u8) -> u32
-    ensures { result ≡ fault-of (gate edition) field body.now }
+    ensures { result ≡ fault_of (gate edition) field body.now }
 {
     let shape = shape_fault(Due::Gate { edition }, field, body.len());
     if shape != 0 {
@@ -81,9 +81,9 @@ pub fn gate_fault(field: Field, body: &[u8], edition: u8) -> u32
 
 // The fault of a field with its body where a wire is due, after the wires that the table holds.
 pub fn wire_fault(field: Field, body: &[u8], edition: u8, gates: u8, seen: &[u8]) -> u32
-    requires gates_le_max_gates { gates ≤ max-gates }
+    requires gates_le_max_gates { gates ≤ max_gates }
     requires pairs_in_bounds { pairs ≤ length seen.now }
-    ensures { (ws : List Wire) → Marks seen.now ws → result ≡ fault-of (wire edition gates ws) field body.now }
+    ensures { (ws : List Wire) → Marks seen.now ws → result ≡ fault_of (wire edition gates ws) field body.now }
 {
     let shape = shape_fault(Due::Wire { edition }, field, body.len());
     if shape != 0 {
@@ -101,7 +101,7 @@ pub fn wire_fault(field: Field, body: &[u8], edition: u8, gates: u8, seen: &[u8]
 // The refusal of a fault, at the field's own offset.
 pub fn refusal_of(fault: u32, offset: usize) -> Refusal
     requires { (1 ≤ fault) × (fault ≤ 6) }
-    ensures { refusal-answer result ≡ refusal fault offset }
+    ensures { refusal_answer result ≡ refusal fault offset }
 {
     match fault {
         1 => Refusal::Short { offset },

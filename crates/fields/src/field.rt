@@ -1,7 +1,7 @@
 // The fields of a block file, on a slice and an offset: the core of the field reader, for any file and any offset. `wide` and `number_at` read numbers, and are public for the programs that run stored cases too.
 ghost use Rattle.std.specs.Prelude.{◌≡◌, ◌+◌, ◌<◌, ◌≤◌, length};
 ghost use Rattle.model.specs.Field.{number, field_at};
-ghost use Rattle.fields.specs.Behind.{offset-behind};
+ghost use Rattle.fields.specs.Behind.{offset_behind};
 ghost use Rattle.fields.specs.Body.{BodyOf};
 
 use model::Field;
@@ -63,7 +63,7 @@ pub fn field_body(file: &[u8], offset: usize) -> &[u8]
 
 // The offset behind the field at an offset: the field's end, and the offset itself where no whole field stands.
 pub fn next_offset(file: &[u8], offset: usize) -> usize
-    ensures { result ≡ offset-behind file.now offset }
+    ensures { result ≡ offset_behind file.now offset }
 {
     let field = field_at(file, offset);
     match field {

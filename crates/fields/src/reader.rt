@@ -2,7 +2,7 @@
 // `blockfile::read` takes every field, body and next offset of a file from it, by the last three functions, whose parameters are the reader's two parts.
 ghost use Rattle.std.specs.Prelude.{◌≡◌};
 ghost use Rattle.model.specs.Field.{field_at};
-ghost use Rattle.fields.specs.Behind.{offset-behind};
+ghost use Rattle.fields.specs.Behind.{offset_behind};
 ghost use Rattle.fields.specs.Body.{BodyOf};
 
 use crate::field::{field_at, field_body, next_offset};
@@ -37,7 +37,7 @@ pub fn body<'a>(r: FieldReader<'a>) -> &'a [u8]
 
 // The reader of the same file behind the field at the reader's offset.
 pub fn behind<'a>(r: FieldReader<'a>) -> FieldReader<'a>
-    ensures { (result.file ≡ r.entry.file) × (result.offset ≡ offset-behind r.entry.file.now r.entry.offset) }
+    ensures { (result.file ≡ r.entry.file) × (result.offset ≡ offset_behind r.entry.file.now r.entry.offset) }
 {
     FieldReader {
         file: r.file,
@@ -61,7 +61,7 @@ pub fn due_body(file: &[u8], offset: usize) -> &[u8]
 
 // The offset behind the field that is due at an offset of the file.
 pub fn offset_behind(file: &[u8], offset: usize) -> usize
-    ensures { result ≡ offset-behind file.now offset }
+    ensures { result ≡ offset_behind file.now offset }
 {
     behind(new(file, offset)).offset
 }

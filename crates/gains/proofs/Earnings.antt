@@ -13,49 +13,49 @@ use lib.Seq.{drop-cons, drop-length, get_or-take}
 use borrow.Author.Tests.{lt-ltb, le-ltb}
 use Rattle.lists.specs.Sum.{sum}
 use Rattle.lists.proofs.Sum.{sum_same}
-use Rattle.lists.proofs.Over.{length-build, getD-build}
-use Rattle.lists.proofs.Compare.{le-or-lt}
-use Rattle.model.specs.Limits.{max-steps, max-width, max-drop}
+use Rattle.lists.proofs.Over.{length_build, getD_build}
+use Rattle.lists.proofs.Compare.{le_or_lt}
+use Rattle.model.specs.Limits.{max_steps, max_width, max_drop}
 use Rattle.model.specs.Block.{Step, Block}
-use Rattle.model.specs.Gain.{drop_of, input-activity, gain, saving}
-use Rattle.model.specs.Arrays.{step-place, step-at}
+use Rattle.model.specs.Gain.{drop_of, input_activity, gain, saving}
+use Rattle.model.specs.Arrays.{step_place, step_at}
 use Rattle.model.proofs.Limited.{BlockLimits}
-use Rattle.gains.specs.Steps.{steps-in, StepsLent, Held}
-use Rattle.gains.specs.Activities.{max-input}
-use Rattle.gains.specs.Savings.{earned, most-of-step, most-of-gate, Earnable, ListSaving}
-use Rattle.gains.proofs.Sums.{sum_more, sum-constant, sum-stretches}
-use Rattle.gains.proofs.Held.{held-count, held_steps, held-lent}
-use Rattle.gains.proofs.Sources.{input-most}
+use Rattle.gains.specs.Steps.{steps_in, StepsLent, Held}
+use Rattle.gains.specs.Activities.{max_input}
+use Rattle.gains.specs.Savings.{earned, most_of_step, most_of_gate, Earnable, ListSaving}
+use Rattle.gains.proofs.Sums.{sum_more, sum_constant, sum_stretches}
+use Rattle.gains.proofs.Held.{held_count, held_steps, held_lent}
+use Rattle.gains.proofs.Sources.{input_most}
 
 -- STEPS
 -- no tick earns anything without a step
-pub earned-none : (activity k : ℕ) → earned [] activity k ≡ 0
+pub earned_none : (activity k : ℕ) → earned [] activity k ≡ 0
 unfolding drop_of
-earned-none activity k = sum-constant k (λ (i : ℕ). drop_of [] i * activity) 0 (λ (i : ℕ) (h : i < k). zero-mul activity) ∙ mul-zero k
+earned_none activity k = sum_constant k (λ (i : ℕ). drop_of [] i * activity) 0 (λ (i : ℕ) (h : i < k). zero-mul activity) ∙ mul-zero k
 
 module _ (s : Step) (ss : List Step) (activity : ℕ) where
   within_step : (k : ℕ) → k ≤ s.width → earned (s ∷ ss) activity k ≡ k * (s.drop * activity)
   unfolding drop_of
   within_step k h =
-      sum-constant k (λ (i : ℕ). drop_of (s ∷ ss) i * activity) (s.drop * activity)
+      sum_constant k (λ (i : ℕ). drop_of (s ∷ ss) i * activity) (s.drop * activity)
       (λ (i : ℕ) (l : i < k). rw (lt-ltb i s.width (omega arith)))
 
-  past-step : (i : ℕ) → drop_of (s ∷ ss) (s.width + i) * activity ≡ drop_of ss i * activity
+  past_step : (i : ℕ) → drop_of (s ∷ ss) (s.width + i) * activity ≡ drop_of ss i * activity
   unfolding drop_of
-  past-step i =
+  past_step i =
       let e : s.width + i - s.width ≡ i = omega arith in
       rw (le-ltb (s.width + i) s.width (omega arith), e)
 
-  beyond-step : (r : ℕ) → earned (s ∷ ss) activity (s.width + r) ≡ s.width * (s.drop * activity) + earned ss activity r
-  beyond-step r =
+  beyond_step : (r : ℕ) → earned (s ∷ ss) activity (s.width + r) ≡ s.width * (s.drop * activity) + earned ss activity r
+  beyond_step r =
       let f : ℕ → ℕ = λ (i : ℕ). drop_of (s ∷ ss) i * activity in
       let near = within_step s.width (omega arith) in
-      let far = sum_same r (λ (i : ℕ). f (s.width + i)) (λ (i : ℕ). drop_of ss i * activity) (λ (i : ℕ) (h : i < r). past-step i) in
-      omega (arith, sum-stretches s.width r f)
+      let far = sum_same r (λ (i : ℕ). f (s.width + i)) (λ (i : ℕ). drop_of ss i * activity) (λ (i : ℕ) (h : i < r). past_step i) in
+      omega (arith, sum_stretches s.width r f)
 
-  pub earned-step : (k : ℕ) → earned (s ∷ ss) activity k ≡ min k s.width * (s.drop * activity) + earned ss activity (k - min k s.width)
+  pub earned_step : (k : ℕ) → earned (s ∷ ss) activity k ≡ min k s.width * (s.drop * activity) + earned ss activity (k - min k s.width)
   unfolding sum
-  earned-step k =
+  earned_step k =
       ⊎_elim
       (λ (h : k ≤ s.width).
       let e : k - k ≡ 0 = omega arith in
@@ -63,116 +63,116 @@ module _ (s : Step) (ss : List Step) (activity : ℕ) where
       (λ (h : s.width < k).
       let l : s.width ≤ k = omega arith in
       let e : k ≡ s.width + (k - s.width) = omega arith in
-      rw (min-eq_right l) (ap (earned (s ∷ ss) activity) e ∙ beyond-step (k - s.width)))
-      (le-or-lt k s.width)
+      rw (min-eq_right l) (ap (earned (s ∷ ss) activity) e ∙ beyond_step (k - s.width)))
+      (le_or_lt k s.width)
 
 -- THE LOOP OVER STEPS
-module _ (counts step-widths drops : List ℕ) (g activity increase : ℕ) where
+module _ (counts step_widths drops : List ℕ) (g activity increase : ℕ) where
   abbrev steps : List Step
-  steps = steps-in counts step-widths drops g
+  steps = steps_in counts step_widths drops g
 
   -- j steps are passed: what is earned, and what the ticks left earn from the others, make up all that the increase earns
   abbrev pub Earning : ℕ → ℕ → ℕ → Type 0
   Earning j left saved = saved + earned (drop j steps) activity left ≡ earned steps activity increase
 
-  pub earning-none : Earning 0 increase 0
-  earning-none = zero-add (earned steps activity increase)
+  pub earning_none : Earning 0 increase 0
+  earning_none = zero-add (earned steps activity increase)
 
-  pub earning-more : (j place left saved ticks gained : ℕ)
+  pub earning_more : (j place left saved ticks gained : ℕ)
       → j < get_or counts g 0
-      → place ≡ step-place g j
-      → ticks ≡ min left (get_or step-widths place 0)
+      → place ≡ step_place g j
+      → ticks ≡ min left (get_or step_widths place 0)
       → gained ≡ ticks * (get_or drops place 0 * activity)
       → Earning j left saved
       → Earning (j + 1) (left - ticks) (saved + gained)
-  earning-more j place left saved ticks gained h p e f so_far =
-      let s = step-at step-widths drops g j in
+  earning_more j place left saved ticks gained h p e f so_far =
+      let s = step_at step_widths drops g j in
       let here : drop j steps ≡ s ∷ drop (j + 1) steps =
-      drop-cons steps j s (rw length-build h)
-      ∙ rw (add-one j, getD-build (get_or counts g 0) (step-at step-widths drops g) j s h) in
+      drop-cons steps j s (rw length_build h)
+      ∙ rw (add-one j, getD_build (get_or counts g 0) (step_at step_widths drops g) j s h) in
       let step : earned (drop j steps) activity left ≡ gained + earned (drop (j + 1) steps) activity (left - ticks) =
-      ap (λ (ss : List Step). earned ss activity left) here ∙ rw (f, e, p) (earned-step s (drop (j + 1) steps) activity left) in
+      ap (λ (ss : List Step). earned ss activity left) here ∙ rw (f, e, p) (earned_step s (drop (j + 1) steps) activity left) in
       omega arith
 
-  pub earning-all : (j left saved : ℕ) → j ≡ get_or counts g 0 → Earning j left saved → saved ≡ earned steps activity increase
-  earning-all j left saved e so_far =
-      let none : drop j steps ≡ [] = ap (λ (k : ℕ). drop k steps) (e ∙ sym (length-build (get_or counts g 0) (step-at step-widths drops g))) ∙ drop-length steps in
-      let no_more : earned (drop j steps) activity left ≡ 0 = ap (λ (ss : List Step). earned ss activity left) none ∙ earned-none activity left in
+  pub earning_all : (j left saved : ℕ) → j ≡ get_or counts g 0 → Earning j left saved → saved ≡ earned steps activity increase
+  earning_all j left saved e so_far =
+      let none : drop j steps ≡ [] = ap (λ (k : ℕ). drop k steps) (e ∙ sym (length_build (get_or counts g 0) (step_at step_widths drops g))) ∙ drop-length steps in
+      let no_more : earned (drop j steps) activity left ≡ 0 = ap (λ (ss : List Step). earned ss activity left) none ∙ earned_none activity left in
       omega arith
 
 -- What a step earns fits.
-pub step_small : (ticks d activity : ℕ) → ticks ≤ max-width → d ≤ max-drop → activity ≤ max-input → ticks * (d * activity) ≤ most-of-step
+pub step_small : (ticks d activity : ℕ) → ticks ≤ max_width → d ≤ max_drop → activity ≤ max_input → ticks * (d * activity) ≤ most_of_step
 step_small ticks d activity h k l = mul-le-mul h (mul-le-mul k l)
 
-module _ (counts step-widths drops : List ℕ) (g : ℕ) (lent : StepsLent counts step-widths drops g) (j place : ℕ) (h : j < get_or counts g 0) (e : place ≡ step-place g j) where
-  pub ticks-small : (left ticks : ℕ) → ticks ≡ min left (get_or step-widths place 0) → ticks ≤ max-width
-  ticks-small left ticks f =
-      let w : get_or step-widths place 0 ≤ max-width = rw e (lent.widths-lent.width_small j h) in
-      omega (arith, min-le_right left (get_or step-widths place 0))
+module _ (counts step_widths drops : List ℕ) (g : ℕ) (lent : StepsLent counts step_widths drops g) (j place : ℕ) (h : j < get_or counts g 0) (e : place ≡ step_place g j) where
+  pub ticks_small : (left ticks : ℕ) → ticks ≡ min left (get_or step_widths place 0) → ticks ≤ max_width
+  ticks_small left ticks f =
+      let w : get_or step_widths place 0 ≤ max_width = rw e (lent.widths_lent.width_small j h) in
+      omega (arith, min-le_right left (get_or step_widths place 0))
 
-  pub drop-small : get_or drops place 0 ≤ max-drop
-  drop-small = rw e (lent.drop-small j h)
+  pub drop_small : get_or drops place 0 ≤ max_drop
+  drop_small = rw e (lent.drop_small j h)
 
 -- THE LOOP OVER GATES
 -- what a gate's ticks earn is the sum of their gains
-pub earned-is-gain : (B : Block) (n : ℕ) (counts step-widths drops : List ℕ) → Held B n counts step-widths drops → (g activity k : ℕ) → g < n → activity ≡ input-activity B g → earned (steps-in counts step-widths drops g) activity k ≡ sum k (gain B g)
+pub earned_is_gain : (B : Block) (n : ℕ) (counts step_widths drops : List ℕ) → Held B n counts step_widths drops → (g activity k : ℕ) → g < n → activity ≡ input_activity B g → earned (steps_in counts step_widths drops g) activity k ≡ sum k (gain B g)
 unfolding gain
-earned-is-gain B n counts step-widths drops held g activity k h e = rw (e, ← held_steps B n counts step-widths drops held g h)
+earned_is_gain B n counts step_widths drops held g activity k h e = rw (e, ← held_steps B n counts step_widths drops held g h)
 
 -- what the first n gates earn
-abbrev pub earned-in : ℕ → List ℕ → List ℕ → List ℕ → List ℕ → List ℕ → ℕ
-earned-in n counts step-widths drops inputs increases =
-    sum n (λ (g : ℕ). earned (steps-in counts step-widths drops g) (get_or inputs g 0) (get_or increases g 0))
+abbrev pub earned_in : ℕ → List ℕ → List ℕ → List ℕ → List ℕ → List ℕ → ℕ
+earned_in n counts step_widths drops inputs increases =
+    sum n (λ (g : ℕ). earned (steps_in counts step_widths drops g) (get_or inputs g 0) (get_or increases g 0))
 
-module _ (n : ℕ) (counts step-widths drops inputs increases : List ℕ) where
-  pub earned-more : (g saved r : ℕ)
-      → saved ≡ earned-in g counts step-widths drops inputs increases
-      → r ≡ earned (steps-in counts step-widths drops g) (get_or inputs g 0) (get_or increases g 0)
-      → saved + r ≡ earned-in (g + 1) counts step-widths drops inputs increases
-  earned-more g saved r e f =
-      omega (arith, sum_more g (λ (h : ℕ). earned (steps-in counts step-widths drops h) (get_or inputs h 0) (get_or increases h 0)))
+module _ (n : ℕ) (counts step_widths drops inputs increases : List ℕ) where
+  pub earned_more : (g saved r : ℕ)
+      → saved ≡ earned_in g counts step_widths drops inputs increases
+      → r ≡ earned (steps_in counts step_widths drops g) (get_or inputs g 0) (get_or increases g 0)
+      → saved + r ≡ earned_in (g + 1) counts step_widths drops inputs increases
+  earned_more g saved r e f =
+      omega (arith, sum_more g (λ (h : ℕ). earned (steps_in counts step_widths drops h) (get_or inputs h 0) (get_or increases h 0)))
 
   -- any list that has these increases in front saves what the gates earn
-  saving-is : (B : Block) (x : List ℕ)
-      → Held B n counts step-widths drops
-      → ((g : ℕ) → g < n → get_or inputs g 0 ≡ input-activity B g)
+  saving_is : (B : Block) (x : List ℕ)
+      → Held B n counts step_widths drops
+      → ((g : ℕ) → g < n → get_or inputs g 0 ≡ input_activity B g)
       → ((g : ℕ) → g < n → get_or x g 0 ≡ get_or increases g 0)
-      → earned-in n counts step-widths drops inputs increases ≡ saving B x
+      → earned_in n counts step_widths drops inputs increases ≡ saving B x
   unfolding saving
-  saving-is B x held inputs_are same =
-      sum_same n (λ (g : ℕ). earned (steps-in counts step-widths drops g) (get_or inputs g 0) (get_or increases g 0))
+  saving_is B x held inputs_are same =
+      sum_same n (λ (g : ℕ). earned (steps_in counts step_widths drops g) (get_or inputs g 0) (get_or increases g 0))
       (λ (g : ℕ). sum (get_or x g 0) (gain B g))
       (λ (g : ℕ) (h : g < n).
-      earned-is-gain B n counts step-widths drops held g (get_or inputs g 0) (get_or increases g 0) h (inputs_are g h)
+      earned_is_gain B n counts step_widths drops held g (get_or inputs g 0) (get_or increases g 0) h (inputs_are g h)
       ∙ ap (λ (k : ℕ). sum k (gain B g)) (sym (same g h)))
-      ∙ ap (λ (k : ℕ). sum k (λ (g : ℕ). sum (get_or x g 0) (gain B g))) (sym (held-count B n counts step-widths drops held))
+      ∙ ap (λ (k : ℕ). sum k (λ (g : ℕ). sum (get_or x g 0) (gain B g))) (sym (held_count B n counts step_widths drops held))
 
-  pub list-saving : (r : ℕ) → r ≡ earned-in n counts step-widths drops inputs increases → r ≤ n * most-of-gate
-      → ListSaving n counts step-widths drops inputs increases r
-  list-saving r e small =
+  pub list_saving : (r : ℕ) → r ≡ earned_in n counts step_widths drops inputs increases → r ≤ n * most_of_gate
+      → ListSaving n counts step_widths drops inputs increases r
+  list_saving r e small =
       record {
         small = small;
-        of-front = λ B held inputs_are. e ∙ saving-is B (take n increases) held inputs_are (λ (g : ℕ) (h : g < n). get_or-take n increases g 0 h);
-        of-all = λ B held inputs_are. e ∙ saving-is B increases held inputs_are (λ (g : ℕ) (h : g < n). refl);
+        of_front = λ B held inputs_are. e ∙ saving_is B (take n increases) held inputs_are (λ (g : ℕ) (h : g < n). get_or-take n increases g 0 h);
+        of_all = λ B held inputs_are. e ∙ saving_is B increases held inputs_are (λ (g : ℕ) (h : g < n). refl);
       }
 
   -- a block within the limits, its input activities found, gives all that is asked
-  pub block-earnable : (B : Block)
+  pub block_earnable : (B : Block)
       → BlockLimits B
-      → Held B n counts step-widths drops
-      → ((g : ℕ) → g < n → get_or inputs g 0 ≡ input-activity B g)
+      → Held B n counts step_widths drops
+      → ((g : ℕ) → g < n → get_or inputs g 0 ≡ input_activity B g)
       → n ≤ length counts
-      → n * max-steps ≤ length step-widths
-      → n * max-steps ≤ length drops
+      → n * max_steps ≤ length step_widths
+      → n * max_steps ≤ length drops
       → n ≤ length inputs
       → n ≤ length increases
-      → Earnable n counts step-widths drops inputs increases
-  block-earnable B limits held inputs_are counts-long widths-long drops-long inputs_long increases-long =
-      let count = held-count B n counts step-widths drops held in
+      → Earnable n counts step_widths drops inputs increases
+  block_earnable B limits held inputs_are counts_long widths_long drops_long inputs_long increases_long =
+      let count = held_count B n counts step_widths drops held in
       record {
-        gates = omega (arith, limits.gates-most);
-        steps = held-lent B n counts step-widths drops held limits counts-long widths-long drops-long;
+        gates = omega (arith, limits.gates_most);
+        steps = held_lent B n counts step_widths drops held limits counts_long widths_long drops_long;
         inputs_long = inputs_long;
-        input-small = λ (g : ℕ) (h : g < n). omega (arith, inputs_are g h, input-most B limits g (omega arith));
-        increases-long = increases-long;
+        input_small = λ (g : ℕ) (h : g < n). omega (arith, inputs_are g h, input_most B limits g (omega arith));
+        increases_long = increases_long;
       }

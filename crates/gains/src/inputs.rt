@@ -1,7 +1,7 @@
 // The input activity of each gate.
 ghost use Rattle.std.specs.Prelude.{◌≡◌, ℕ, ◌≤◌, ◌<◌, length, get_or};
 ghost use Rattle.lists.specs.Over.{build, over};
-ghost use Rattle.gains.specs.Activities.{brought-by, Summable, InputActivities};
+ghost use Rattle.gains.specs.Activities.{brought_by, Summable, InputActivities};
 
 use ordering::marking::at;
 
@@ -27,7 +27,7 @@ fn add_wires(
     out: &mut [u32],
 )
     requires { Summable n m sources.now targets.now activities.now out.old × ((g : ℕ) → g < n → get_or out.old g 0 ≡ 0) }
-    ensures { out.new ≡ over (build n (brought-by m sources.now targets.now activities.now)) out.old }
+    ensures { out.new ≡ over (build n (brought_by m sources.now targets.now activities.now)) out.old }
 {
     let mut i: usize = 0;
     while i < m {

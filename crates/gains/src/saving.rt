@@ -1,9 +1,9 @@
 // What the increases of gates earn.
 ghost use Rattle.std.specs.Prelude.{◌≡◌, ◌*◌, ◌≤◌, min};
-ghost use Rattle.model.specs.Limits.{max-width, max-drop};
-ghost use Rattle.gains.specs.Steps.{steps-in, StepsLent};
-ghost use Rattle.gains.specs.Activities.{max-input};
-ghost use Rattle.gains.specs.Savings.{most-of-step, GateSaving, Earnable, ListSaving};
+ghost use Rattle.model.specs.Limits.{max_width, max_drop};
+ghost use Rattle.gains.specs.Steps.{steps_in, StepsLent};
+ghost use Rattle.gains.specs.Activities.{max_input};
+ghost use Rattle.gains.specs.Savings.{most_of_step, GateSaving, Earnable, ListSaving};
 
 use crate::steps::place_of;
 use ordering::marking::at;
@@ -17,8 +17,8 @@ fn smaller(a: u32, b: u32) -> u32
 
 // What so many ticks of a step with this drop earn at this input activity.
 fn step_saving(ticks: u32, drop: u32, activity: u32) -> u64
-    requires { (ticks ≤ max-width) × (drop ≤ max-drop) × (activity ≤ max-input) }
-    ensures { (result ≡ ticks * (drop * activity)) × (result ≤ most-of-step) }
+    requires { (ticks ≤ max_width) × (drop ≤ max_drop) × (activity ≤ max_input) }
+    ensures { (result ≡ ticks * (drop * activity)) × (result ≤ most_of_step) }
 {
     (ticks as u64) * ((drop as u64) * (activity as u64))
 }
@@ -32,8 +32,8 @@ fn gate_saving(
     drops: &[u32],
     activity: u32,
 ) -> u64
-    requires { StepsLent counts.now step_widths.now drops.now g × (activity ≤ max-input) }
-    ensures { GateSaving (steps-in counts.now step_widths.now drops.now g) activity increase result }
+    requires { StepsLent counts.now step_widths.now drops.now g × (activity ≤ max_input) }
+    ensures { GateSaving (steps_in counts.now step_widths.now drops.now g) activity increase result }
 {
     let count = at(counts, g);
     let mut left = increase;

@@ -1,17 +1,17 @@
 // The steps of a gate: where they stand, the sum of their widths, and increases that exceed it.
 ghost use Rattle.std.specs.Prelude.{◌≡◌, List, ℕ, ◌≤◌, ◌<◌, length, take};
-ghost use Rattle.model.specs.Limits.{max-gates, max-steps};
+ghost use Rattle.model.specs.Limits.{max_gates, max_steps};
 ghost use Rattle.model.specs.Block.{Block};
-ghost use Rattle.model.specs.Arrays.{step-place};
-ghost use Rattle.gains.specs.Steps.{widths-in, WidthsLent, Held, LowestExceeding};
+ghost use Rattle.model.specs.Arrays.{step_place};
+ghost use Rattle.gains.specs.Steps.{widths_in, WidthsLent, Held, LowestExceeding};
 
 use model::limits::MAX_STEPS;
 use ordering::marking::at;
 
 // The place of step j of gate g.
 pub(crate) fn place_of(g: usize, j: usize) -> usize
-    requires { (g < max-gates) × (j < max-steps) }
-    ensures { result ≡ step-place g j }
+    requires { (g < max_gates) × (j < max_steps) }
+    ensures { result ≡ step_place g j }
 {
     g * MAX_STEPS + j
 }
@@ -19,7 +19,7 @@ pub(crate) fn place_of(g: usize, j: usize) -> usize
 // The sum of the widths of gate g.
 fn widths_of(g: usize, counts: &[u32], step_widths: &[u32]) -> u32
     requires { WidthsLent counts.now step_widths.now g }
-    ensures { result ≡ widths-in counts.now step_widths.now g }
+    ensures { result ≡ widths_in counts.now step_widths.now g }
 {
     let count = at(counts, g);
     let mut sum: u32 = 0;

@@ -1,7 +1,7 @@
 // Ticks handed out at a node: in series to the item that leads, in parallel to both sides. The two functions call each other; each hand-over from a parallel part is to one with fewer wires.
 // Public for `sizing` alone.
 ghost use Rattle.std.specs.Prelude.{◌<◌};
-ghost use Rattle.planting.specs.TreeWords.{tree-nodes, tree-parents};
+ghost use Rattle.planting.specs.TreeWords.{tree_nodes, tree_parents};
 ghost use Rattle.heads.specs.Plan.{kind, parent};
 ghost use Rattle.handout.specs.State.{CanGiveOut, GaveOut};
 
@@ -25,7 +25,7 @@ pub fn series_give_out(
     heads: &mut HeadWords,
 )
     requires { CanGiveOut block.now tree.now increases.old heads.old i w }
-    ensures { GaveOut block.now tree.now increases.old heads.old increases.new heads.new i w (parent (tree-parents tree.now) i) }
+    ensures { GaveOut block.now tree.now increases.old heads.old increases.new heads.new i w (parent (tree_parents tree.now) i) }
 {
     if node_gain(&*heads, i) == 0 {
         return;
@@ -50,7 +50,7 @@ pub fn parallel_give_out(
     increases: &mut [u32],
     heads: &mut HeadWords,
 )
-    requires bound { 1 < kind (tree-nodes tree.now) i }
+    requires bound { 1 < kind (tree_nodes tree.now) i }
     requires can_give_out { CanGiveOut block.now tree.now increases.old heads.old i w }
     ensures { GaveOut block.now tree.now increases.old heads.old increases.new heads.new i w i }
 {

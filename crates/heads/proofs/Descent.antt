@@ -9,32 +9,32 @@ use Rattle.parts.specs.Nodes.{Nodes}
 use Rattle.optimum.specs.Head as items
 use Rattle.optimum.specs.Head.{Head, Item, item, leads, turn}
 use Rattle.heads.specs.Plan.{kind, left, gate, right}
-use Rattle.heads.specs.Stored.{Stored, Made, Walkable, Down, here, further, Ended, head_at, next-by, next_down}
+use Rattle.heads.specs.Stored.{Stored, Made, Walkable, Down, here, further, Ended, head_at, next_by, next_down}
 use Rattle.heads.proofs.Trees.{by_kind}
 
 module _ (a b c : Head) (l m r : ℕ) where
-  pub last-leads : leads b a ≡ true → leads c b ≡ true → r ≡ item (turn a b c) l m r
+  pub last_leads : leads b a ≡ true → leads c b ≡ true → r ≡ item (turn a b c) l m r
   unfolding turn
-  last-leads e f = rw (e, f)
+  last_leads e f = rw (e, f)
 
-  pub middle-leads : leads b a ≡ true → leads c b ≡ false → m ≡ item (turn a b c) l m r
+  pub middle_leads : leads b a ≡ true → leads c b ≡ false → m ≡ item (turn a b c) l m r
   unfolding turn
-  middle-leads e f = rw (e, f)
+  middle_leads e f = rw (e, f)
 
-  pub last-passes : leads b a ≡ false → leads c a ≡ true → r ≡ item (turn a b c) l m r
+  pub last_passes : leads b a ≡ false → leads c a ≡ true → r ≡ item (turn a b c) l m r
   unfolding turn
-  last-passes e f = rw (e, f)
+  last_passes e f = rw (e, f)
 
-  pub first-leads : leads b a ≡ false → leads c a ≡ false → l ≡ item (turn a b c) l m r
+  pub first_leads : leads b a ≡ false → leads c a ≡ false → l ≡ item (turn a b c) l m r
   unfolding turn
-  first-leads e f = rw (e, f)
+  first_leads e f = rw (e, f)
 
 module _ {N : Nodes} {G H : Stored} {k : ℕ} (made : Made N G H k) where
-  pub stays-there : kind N k ≢ 1 → k ≡ next_down N G H k
+  pub stays_there : kind N k ≢ 1 → k ≡ next_down N G H k
   unfolding next_down
-  stays-there = go (kind N k)
+  stays_there = go (kind N k)
     where
-      go : (t : ℕ) → t ≢ 1 → k ≡ next-by t (turn (head_at H (left N k)) (head_at G (gate N k)) (head_at H (right N k))) (left N k) k (right N k)
+      go : (t : ℕ) → t ≢ 1 → k ≡ next_by t (turn (head_at H (left N k)) (head_at G (gate N k)) (head_at H (right N k))) (left N k) k (right N k)
       go zero d = refl
       go (suc zero) d = absurd (d refl)
       go (suc (suc t)) d = refl
@@ -51,12 +51,12 @@ pub record Walked (N : Nodes) (G H : Stored) (i j next : ℕ) : Type 0 where
   pub known : next ≡ next_down N G H j
 
 module _ {N : Nodes} {G H : Stored} {i : ℕ} (able : Walkable N G H i) where
-  pub walk-starts : {next : ℕ} → next ≡ next_down N G H i → Walked N G H i i next
-  walk-starts e = record { down = here; within = omega arith; known = e }
+  pub walk_starts : {next : ℕ} → next ≡ next_down N G H i → Walked N G H i i next
+  walk_starts e = record { down = here; within = omega arith; known = e }
 
   module _ {j next : ℕ} (walked : Walked N G H i j next) where
-    pub walk-on : {then : ℕ} → next < j → then ≡ next_down N G H next → Walked N G H i next then
-    walk-on l e =
+    pub walk_on : {then : ℕ} → next < j → then ≡ next_down N G H next → Walked N G H i next then
+    walk_on l e =
         record {
           down = subst (λ (n : ℕ). Down N G H i n) (sym walked.known) (further j walked.down (rw walked.known at l));
           within = omega (arith, walked.within);
@@ -64,13 +64,13 @@ module _ {N : Nodes} {G H : Stored} {i : ℕ} (able : Walkable N G H i) where
         }
 
     -- the next node is no higher
-    no-higher : next_down N G H j ≤ j
+    no_higher : next_down N G H j ≤ j
     unfolding next_down
-    no-higher =
+    no_higher =
         by_kind (kind N j)
         (λ e. rw e (omega arith))
         (λ e. rw e (go (turn (head_at H (left N j)) (head_at G (gate N j)) (head_at H (right N j)))
-        (able.left_below j walked.within (omega arith)) (able.right-below j walked.within (omega arith))))
+        (able.left_below j walked.within (omega arith)) (able.right_below j walked.within (omega arith))))
         (λ e. go' (kind N j) e)
       where
         go : (t : Item) → left N j < j → right N j < j → item t (left N j) j (right N j) ≤ j
@@ -78,7 +78,7 @@ module _ {N : Nodes} {G H : Stored} {i : ℕ} (able : Walkable N G H i) where
         go items.gate l r = omega arith
         go items.right l r = omega arith
 
-        go' : (t : ℕ) → 1 < t → next-by t (turn (head_at H (left N j)) (head_at G (gate N j)) (head_at H (right N j))) (left N j) j (right N j) ≤ j
+        go' : (t : ℕ) → 1 < t → next_by t (turn (head_at H (left N j)) (head_at G (gate N j)) (head_at H (right N j))) (left N j) j (right N j) ≤ j
         go' zero e = absurd (omega arith)
         go' (suc zero) e = absurd (omega arith)
         go' (suc (suc t)) e = omega arith
@@ -87,5 +87,5 @@ module _ {N : Nodes} {G H : Stored} {i : ℕ} (able : Walkable N G H i) where
     walk_ends d =
         record {
           down = walked.down;
-          stays = omega (arith, walked.known, no-higher);
+          stays = omega (arith, walked.known, no_higher);
         }

@@ -9,36 +9,36 @@ use lib.ListN.{length, get_or, set}
 use lib.Seq.{get_or-set_same, get_or-set_other}
 use Rattle.optimum.specs.Head.{Head}
 use Rattle.ties.specs.Code.{ranks}
-use Rattle.heads.specs.Stored.{GateRoom, GateWritten, gate-heads, head_at, put}
+use Rattle.heads.specs.Stored.{GateRoom, GateWritten, gate_heads, head_at, put}
 use Rattle.heads.specs.GateHeads.{GatesUnslowed}
-use Rattle.heads.proofs.Written.{at-put, beside-put, room-put}
+use Rattle.heads.proofs.Written.{at_put, beside_put, room_put}
 
-pub unslowed-none : (heads : ℕ → ℕ → Head) (x words : List ℕ) → GatesUnslowed heads 0 x words words
-unslowed-none heads x words =
+pub unslowed_none : (heads : ℕ → ℕ → Head) (x words : List ℕ) → GatesUnslowed heads 0 x words words
+unslowed_none heads x words =
     record {
-      unslowed = record { no-increase = λ g l. absurd (omega arith); right = λ g l. absurd (omega arith) };
+      unslowed = record { no_increase = λ g l. absurd (omega arith); right = λ g l. absurd (omega arith) };
       room = λ g r. r;
       nodes = refl;
     }
 
 -- the heads of one gate more
-pub unslowed-more : {heads : ℕ → ℕ → Head} {x words₀ words : List ℕ} {g : ℕ} → GatesUnslowed heads g x words₀ words → g < length x → GateRoom words₀ g
+pub unslowed_more : {heads : ℕ → ℕ → Head} {x words₀ words : List ℕ} {g : ℕ} → GatesUnslowed heads g x words₀ words → g < length x → GateRoom words₀ g
     → {at : ℕ} {a : Head} {words' : List ℕ} → at ≡ g → a ≡ heads g 0 → a.rank < ranks → GateWritten words words' at a
     → GatesUnslowed heads (g + 1) (set x at 0) words₀ words'
-unslowed-more {heads} {x} {words₀} {words} {g} before l place {at} {a} {words'} t e low w =
+unslowed_more {heads} {x} {words₀} {words} {g} before l place {at} {a} {words'} t e low w =
     record {
       unslowed = record {
-        no-increase = λ k b. rw t (at-gate k b (ℕ_discrete k g));
+        no_increase = λ k b. rw t (at_gate k b (ℕ_discrete k g));
         right = λ k b. rw (w.gates, t, e) (at_head k b (ℕ_discrete k g));
       };
-      room = λ k r. rw w.gates (room-put (gate-heads words) at k a (before.room k r));
+      room = λ k r. rw w.gates (room_put (gate_heads words) at k a (before.room k r));
       nodes = w.nodes ∙ before.nodes;
     }
   where
-    at-gate : (k : ℕ) → k < g + 1 → Dec (k ≡ g) → get_or (set x g 0) k 0 ≡ 0
-    at-gate k b (yes s) = rw s (get_or-set_same x g 0 0 l)
-    at-gate k b (no d) = get_or-set_other x g k 0 0 d ∙ before.unslowed.no-increase k (omega arith)
+    at_gate : (k : ℕ) → k < g + 1 → Dec (k ≡ g) → get_or (set x g 0) k 0 ≡ 0
+    at_gate k b (yes s) = rw s (get_or-set_same x g 0 0 l)
+    at_gate k b (no d) = get_or-set_other x g k 0 0 d ∙ before.unslowed.no_increase k (omega arith)
 
-    at_head : (k : ℕ) → k < g + 1 → Dec (k ≡ g) → head_at (put (gate-heads words) g (heads g 0)) k ≡ heads k 0
-    at_head k b (yes s) = rw s (at-put (gate-heads words) g (heads g 0) (rw e at low) (before.room g place.room))
-    at_head k b (no d) = beside-put (gate-heads words) g k (heads g 0) d ∙ before.unslowed.right k (omega arith)
+    at_head : (k : ℕ) → k < g + 1 → Dec (k ≡ g) → head_at (put (gate_heads words) g (heads g 0)) k ≡ heads k 0
+    at_head k b (yes s) = rw s (at_put (gate_heads words) g (heads g 0) (rw e at low) (before.room g place.room))
+    at_head k b (no d) = beside_put (gate_heads words) g k (heads g 0) d ∙ before.unslowed.right k (omega arith)

@@ -3,7 +3,7 @@ use Rattle.std.specs.Prelude.{◌≡◌, List, ℕ, ◌+◌, ◌<◌, get_or}
 use Rattle.optimum.specs.Head.{Head}
 use Rattle.ties.specs.Code.{ranks}
 use Rattle.optimum.specs.Increases.{add}
-use Rattle.heads.specs.Stored.{Stored, Room, head_at, put, gate-heads, node-heads}
+use Rattle.heads.specs.Stored.{Stored, Room, head_at, put, gate_heads, node_heads}
 
 -- w ticks more for gate g, and its head, whose rank fits a key, made right again
 pub record Added (heads : ℕ → ℕ → Head) (x x' : List ℕ) (G G' : Stored) (g w : ℕ) : Type 0 where
@@ -13,16 +13,16 @@ pub record Added (heads : ℕ → ℕ → Head) (x x' : List ℕ) (G G' : Stored
 
 -- the same in the words, where the heads of the nodes are as before
 pub record GateAdded (heads : ℕ → ℕ → Head) (x x' words words' : List ℕ) (g w : ℕ) : Type 0 where
-  pub added : Added heads x x' (gate-heads words) (gate-heads words') g w
-  pub nodes : node-heads words' ≡ node-heads words
+  pub added : Added heads x x' (gate_heads words) (gate_heads words') g w
+  pub nodes : node_heads words' ≡ node_heads words
 
 -- n gates without increase, and their heads
 pub record Unslowed (heads : ℕ → ℕ → Head) (n : ℕ) (x : List ℕ) (G : Stored) : Type 0 where
-  pub no-increase : (g : ℕ) → g < n → get_or x g 0 ≡ 0
+  pub no_increase : (g : ℕ) → g < n → get_or x g 0 ≡ 0
   pub right : (g : ℕ) → g < n → head_at G g ≡ heads g 0
 
 -- the same in the words, where the heads of the nodes are as before, and as many of gates
 pub record GatesUnslowed (heads : ℕ → ℕ → Head) (n : ℕ) (x words words' : List ℕ) : Type 0 where
-  pub unslowed : Unslowed heads n x (gate-heads words')
-  pub room : (g : ℕ) → Room (gate-heads words) g → Room (gate-heads words') g
-  pub nodes : node-heads words' ≡ node-heads words
+  pub unslowed : Unslowed heads n x (gate_heads words')
+  pub room : (g : ℕ) → Room (gate_heads words) g → Room (gate_heads words') g
+  pub nodes : node_heads words' ≡ node_heads words

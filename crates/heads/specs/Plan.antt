@@ -1,25 +1,25 @@
 -- The tree of parts in words, with the number of each node's parent, and the heads that the gates have by their steps. Nothing of it changes while ticks are handed out.
 use Rattle.std.specs.Prelude.{◌≡◌, cond, List, ℕ, ◌+◌, ◌*◌, ◌^◌, ◌≤◌, ◌<◌, ltb, eqb, length, get_or}
 use Rattle.lists.specs.Over.{build}
-use Rattle.model.specs.Limits.{max-gates, max-wires, max-steps, max-activity, max-drop}
+use Rattle.model.specs.Limits.{max_gates, max_wires, max_steps, max_activity, max_drop}
 use Rattle.model.specs.Block.{Step}
 use Rattle.model.specs.Gain.{drop_of}
-use Rattle.model.specs.Arrays.{step-at}
+use Rattle.model.specs.Arrays.{step_at}
 use Rattle.parts.specs.Nodes.{Nodes, tree_of}
-use Rattle.planting.specs.Copy.{max-nodes}
-use Rattle.planting.specs.Planted.{as-tree}
-use Rattle.planting.specs.TreeWords.{nodes-held, tree-nodes, tree-parents}
+use Rattle.planting.specs.Copy.{max_nodes}
+use Rattle.planting.specs.Planted.{as_tree}
+use Rattle.planting.specs.TreeWords.{nodes_held, tree_nodes, tree_parents}
 use Rattle.optimum.specs.Tree.{Tree, Once, Below, size}
-use Rattle.optimum.specs.Head.{Head, Heads, no-head, rank}
+use Rattle.optimum.specs.Head.{Head, Heads, no_head, rank}
 use Rattle.optimum.specs.Gates.{room}
-use Rattle.blockwords.specs.BlockWords.{gates-held, counts_of, widths-of, drops-of, inputs-of}
+use Rattle.blockwords.specs.BlockWords.{gates_held, counts_of, widths_of, drops_of, inputs_of}
 
 -- the part whose top is node k
 abbrev pub part : Nodes → ℕ → Tree
-part N k = as-tree (tree_of N k)
+part N k = as_tree (tree_of N k)
 
-abbrev pub node-count : Nodes → ℕ
-node-count N = length N.kinds
+abbrev pub node_count : Nodes → ℕ
+node_count N = length N.kinds
 
 abbrev pub kind : Nodes → ℕ → ℕ
 kind N k = get_or N.kinds k 0
@@ -38,64 +38,64 @@ parent parents k = get_or parents k 0
 
 -- node k is one of the tree in these words, which has no more nodes than a block's tree can have
 pub record NodeIn (tree : List ℕ) (k : ℕ) : Type 0 where
-  pub node : k < nodes-held tree
-  pub few : nodes-held tree ≤ max-nodes
+  pub node : k < nodes_held tree
+  pub few : nodes_held tree ≤ max_nodes
 
 -- gates of a block here, at most: one more than a file's
-abbrev pub most-gates : ℕ
-most-gates = max-gates + 1
+abbrev pub most_gates : ℕ
+most_gates = max_gates + 1
 
 -- input activity of a gate, at most: every wire leads to it
-abbrev pub most-input : ℕ
-most-input = max-wires * max-activity
+abbrev pub most_input : ℕ
+most_input = max_wires * max_activity
 
 -- gain of a gate's tick, at most
-abbrev pub most-gain : ℕ
-most-gain = most-input * max-drop
+abbrev pub most_gain : ℕ
+most_gain = most_input * max_drop
 
 -- Children have smaller numbers than their parent, whose number stands in `parents`; a gate stands at one series node, and once in a part. No more nodes than a block's tree can have.
 pub record Shaped (N : Nodes) (parents : List ℕ) : Type 0 where
-  pub few-nodes : node-count N ≤ max-nodes
-  pub left_below : (k : ℕ) → k < node-count N → 0 < kind N k → left N k < k
-  pub right-below : (k : ℕ) → k < node-count N → 0 < kind N k → right N k < k
-  pub left-parent : (k : ℕ) → k < node-count N → 0 < kind N k → parent parents (left N k) ≡ k
-  pub right-parent : (k : ℕ) → k < node-count N → 0 < kind N k → parent parents (right N k) ≡ k
-  pub own-gate : (j k : ℕ) → j < node-count N → k < node-count N → kind N j ≡ 1 → kind N k ≡ 1 → gate N j ≡ gate N k → j ≡ k
-  pub once : (k : ℕ) → k < node-count N → Once (part N k)
-  pub few : (k : ℕ) → k < node-count N → size (part N k) ≤ most-gates
+  pub few_nodes : node_count N ≤ max_nodes
+  pub left_below : (k : ℕ) → k < node_count N → 0 < kind N k → left N k < k
+  pub right_below : (k : ℕ) → k < node_count N → 0 < kind N k → right N k < k
+  pub left_parent : (k : ℕ) → k < node_count N → 0 < kind N k → parent parents (left N k) ≡ k
+  pub right_parent : (k : ℕ) → k < node_count N → 0 < kind N k → parent parents (right N k) ≡ k
+  pub own_gate : (j k : ℕ) → j < node_count N → k < node_count N → kind N j ≡ 1 → kind N k ≡ 1 → gate N j ≡ gate N k → j ≡ k
+  pub once : (k : ℕ) → k < node_count N → Once (part N k)
+  pub few : (k : ℕ) → k < node_count N → size (part N k) ≤ most_gates
 
 -- the head of a gate of rank r and input activity a at a tick with this drop, `width` ticks before the end of its step
-unfoldable pub step-head : ℕ → ℕ → ℕ → ℕ → Head
-step-head r a width drop = cond (eqb (drop * a) 0) no-head (record { width = width; gain = drop * a; rank = r })
+unfoldable pub step_head : ℕ → ℕ → ℕ → ℕ → Head
+step_head r a width drop = cond (eqb (drop * a) 0) no_head (record { width = width; gain = drop * a; rank = r })
 
 -- the steps of gate g
-abbrev pub steps-in : List ℕ → List ℕ → List ℕ → ℕ → List Step
-steps-in counts step-widths drops g = build (get_or counts g 0) (step-at step-widths drops g)
+abbrev pub steps_in : List ℕ → List ℕ → List ℕ → ℕ → List Step
+steps_in counts step_widths drops g = build (get_or counts g 0) (step_at step_widths drops g)
 
 -- the heads of the n gates whose steps and input activities the arrays hold
-unfoldable pub heads-in : ℕ → List ℕ → List ℕ → List ℕ → List ℕ → ℕ → ℕ → Head
-heads-in n counts step-widths drops inputs g k =
-    let ss = steps-in counts step-widths drops g in
-    cond (ltb g n) (step-head (rank n g) (get_or inputs g 0) (room ss k) (drop_of ss k)) no-head
+unfoldable pub heads_in : ℕ → List ℕ → List ℕ → List ℕ → List ℕ → ℕ → ℕ → Head
+heads_in n counts step_widths drops inputs g k =
+    let ss = steps_in counts step_widths drops g in
+    cond (ltb g n) (step_head (rank n g) (get_or inputs g 0) (room ss k) (drop_of ss k)) no_head
 
 -- The arrays hold at most so many steps of each of n gates, with drops and input activities that are not too great.
-pub record StepsLent (n : ℕ) (counts step-widths drops inputs : List ℕ) : Type 0 where
-  pub gates : n ≤ max-gates
-  pub few : (g : ℕ) → g < n → get_or counts g 0 ≤ max-steps
-  pub drop-small : (g j : ℕ) → g < n → j < get_or counts g 0 → get_or drops (g * max-steps + j) 0 ≤ max-drop
-  pub input-small : (g : ℕ) → g < n → get_or inputs g 0 ≤ most-input
+pub record StepsLent (n : ℕ) (counts step_widths drops inputs : List ℕ) : Type 0 where
+  pub gates : n ≤ max_gates
+  pub few : (g : ℕ) → g < n → get_or counts g 0 ≤ max_steps
+  pub drop_small : (g j : ℕ) → g < n → j < get_or counts g 0 → get_or drops (g * max_steps + j) 0 ≤ max_drop
+  pub input_small : (g : ℕ) → g < n → get_or inputs g 0 ≤ most_input
 
 -- the heads of a block's gates
-abbrev pub heads-of : List ℕ → ℕ → ℕ → Head
-heads-of block = heads-in (gates-held block) (counts_of block) (widths-of block) (drops-of block) (inputs-of block)
+abbrev pub heads_of : List ℕ → ℕ → ℕ → Head
+heads_of block = heads_in (gates_held block) (counts_of block) (widths_of block) (drops_of block) (inputs_of block)
 
 -- the words of a block hold such steps
 abbrev pub StepsHeld : List ℕ → Type 0
-StepsHeld block = StepsLent (gates-held block) (counts_of block) (widths-of block) (drops-of block) (inputs-of block)
+StepsHeld block = StepsLent (gates_held block) (counts_of block) (widths_of block) (drops_of block) (inputs_of block)
 
 -- What stands while ticks are handed out: n gates, the tree, and the gates' heads.
 pub record Plan : Type 0 where
-  pub gate-count : ℕ
+  pub gate_count : ℕ
   pub nodes : Nodes
   pub parents : List ℕ
   pub heads : ℕ → ℕ → Head
@@ -104,16 +104,16 @@ pub record Plan : Type 0 where
 abbrev pub plan : List ℕ → List ℕ → Plan
 plan block tree =
     record {
-      gate-count = gates-held block;
-      nodes = tree-nodes tree;
-      parents = tree-parents tree;
-      heads = heads-of block;
+      gate_count = gates_held block;
+      nodes = tree_nodes tree;
+      parents = tree_parents tree;
+      heads = heads_of block;
     }
 
 -- The tree is one of gates below n; the heads are those of gates, no gain is too great, and no width leads too far.
 pub record Sound (P : Plan) : Type 0 where
   pub shaped : Shaped P.nodes P.parents
-  pub below : (k : ℕ) → k < node-count P.nodes → Below P.gate-count (part P.nodes k)
-  pub heads : Heads P.gate-count P.heads
-  pub small : (g k : ℕ) → (P.heads g k).gain ≤ most-gain
+  pub below : (k : ℕ) → k < node_count P.nodes → Below P.gate_count (part P.nodes k)
+  pub heads : Heads P.gate_count P.heads
+  pub small : (g k : ℕ) → (P.heads g k).gain ≤ most_gain
   pub near : (g k : ℕ) → 0 < (P.heads g k).gain → k + (P.heads g k).width < 2 ^ 32

@@ -1,13 +1,13 @@
 -- Heads stored in words, an entry a gate or a node; and what makes them right: a node's stored head is what the stored heads just below it make.
 use Rattle.std.specs.Prelude.{◌≡◌, ◌≢◌, List, cond, ℕ, zero, suc, ◌+◌, ◌*◌, ◌^◌, ◌≤◌, ◌<◌, ltb, length, get_or, set}
-use Rattle.model.specs.Limits.{max-gates}
-use Rattle.planting.specs.Copy.{max-nodes}
+use Rattle.model.specs.Limits.{max_gates}
+use Rattle.planting.specs.Copy.{max_nodes}
 use Rattle.parts.specs.Nodes.{Nodes}
-use Rattle.optimum.specs.Head.{Head, no-head, best_of, beside, Item, turn, item}
+use Rattle.optimum.specs.Head.{Head, no_head, best_of, beside, Item, turn, item}
 use Rattle.words.specs.View.{view}
-use Rattle.planting.specs.TreeWords.{tree-nodes, tree-parents}
-use Rattle.ties.specs.Code.{of-key, key_of}
-use Rattle.heads.specs.Plan.{node-count, kind, left, gate, right, parent, most-gain, Shaped}
+use Rattle.planting.specs.TreeWords.{tree_nodes, tree_parents}
+use Rattle.ties.specs.Code.{of_key, key_of}
+use Rattle.heads.specs.Plan.{node_count, kind, left, gate, right, parent, most_gain, Shaped}
 
 pub record Stored : Type 0 where
   pub widths : List ℕ
@@ -17,34 +17,34 @@ abbrev pub stored : List ℕ → List ℕ → Stored
 stored widths keys = record { widths = widths; keys = keys }
 
 -- the words of heads: two a head, its key and its width; an entry for each gate, and behind them one for each node
-abbrev pub head-entries : ℕ
-head-entries = max-gates + max-nodes
+abbrev pub head_entries : ℕ
+head_entries = max_gates + max_nodes
 
 -- the head at entry e
 abbrev pub entry_at : List ℕ → ℕ → Head
-entry_at words e = of-key (get_or words (e * 2 + 1) 0) (get_or words (e * 2 + 0) 0)
+entry_at words e = of_key (get_or words (e * 2 + 1) 0) (get_or words (e * 2 + 0) 0)
 
 -- the head a at entry e
 abbrev pub write : List ℕ → ℕ → Head → List ℕ
 write words e a = set (set words (e * 2 + 0) (key_of a)) (e * 2 + 1) a.width
 
 -- `count` entries from entry `first` on
-abbrev pub heads-from : ℕ → ℕ → List ℕ → Stored
-heads-from first count words = stored (view (first * 2 + 1) 2 count words) (view (first * 2 + 0) 2 count words)
+abbrev pub heads_from : ℕ → ℕ → List ℕ → Stored
+heads_from first count words = stored (view (first * 2 + 1) 2 count words) (view (first * 2 + 0) 2 count words)
 
 -- so many, where the words are all there; otherwise none
-unfoldable pub if-long : List ℕ → ℕ → ℕ
-if-long words count = cond (ltb (length words) (head-entries * 2)) 0 count
+unfoldable pub if_long : List ℕ → ℕ → ℕ
+if_long words count = cond (ltb (length words) (head_entries * 2)) 0 count
 
-unfoldable pub gate-heads : List ℕ → Stored
-gate-heads words = heads-from 0 (if-long words max-gates) words
+unfoldable pub gate_heads : List ℕ → Stored
+gate_heads words = heads_from 0 (if_long words max_gates) words
 
-unfoldable pub node-heads : List ℕ → Stored
-node-heads words = heads-from max-gates (if-long words max-nodes) words
+unfoldable pub node_heads : List ℕ → Stored
+node_heads words = heads_from max_gates (if_long words max_nodes) words
 
 -- the head at place k
 abbrev pub head_at : Stored → ℕ → Head
-head_at H k = of-key (get_or H.widths k 0) (get_or H.keys k 0)
+head_at H k = of_key (get_or H.widths k 0) (get_or H.keys k 0)
 
 -- the head a at place k
 abbrev pub put : Stored → ℕ → Head → Stored
@@ -52,68 +52,68 @@ put H k a = stored (set H.widths k a.width) (set H.keys k (key_of a))
 
 -- place k is there in both
 pub record Room (H : Stored) (k : ℕ) : Type 0 where
-  pub in-widths : k < length H.widths
-  pub in-keys : k < length H.keys
+  pub in_widths : k < length H.widths
+  pub in_keys : k < length H.keys
 
 -- the head of a node of a kind with these heads at its left, its gate and its right
 abbrev pub made : ℕ → Head → Head → Head → Head
-made zero a b c = no-head
+made zero a b c = no_head
 made (suc zero) a b c = best_of a b c
 made (suc (suc k)) a b c = beside a c
 
 -- the head that the stored heads just below node k make
-abbrev pub head-below : Nodes → Stored → Stored → ℕ → Head
-head-below N G H k = made (kind N k) (head_at H (left N k)) (head_at G (gate N k)) (head_at H (right N k))
+abbrev pub head_below : Nodes → Stored → Stored → ℕ → Head
+head_below N G H k = made (kind N k) (head_at H (left N k)) (head_at G (gate N k)) (head_at H (right N k))
 
 -- The heads just below node k are at hand, and the head that they make fits.
 pub record Made (N : Nodes) (G H : Stored) (k : ℕ) : Type 0 where
-  pub node : k < node-count N
-  pub few : node-count N ≤ max-nodes
+  pub node : k < node_count N
+  pub few : node_count N ≤ max_nodes
   pub room : Room H k
-  pub left-room : 0 < kind N k → Room H (left N k)
-  pub gate-room : kind N k ≡ 1 → Room G (gate N k)
-  pub right-room : 0 < kind N k → Room H (right N k)
+  pub left_room : 0 < kind N k → Room H (left N k)
+  pub gate_room : kind N k ≡ 1 → Room G (gate N k)
+  pub right_room : 0 < kind N k → Room H (right N k)
   pub sum_fits : 1 < kind N k → (head_at H (left N k)).gain + (head_at H (right N k)).gain < 2 ^ 56
 
 -- The head stored for node k is what those just below it make.
 pub record Local (N : Nodes) (G H : Stored) (k : ℕ) : Type 0 where
-  pub is : head_at H k ≡ head-below N G H k
+  pub is : head_at H k ≡ head_below N G H k
 
 -- every node but p whose head was right by those below it still is
 pub record Keeps (N : Nodes) (G H G' H' : Stored) (p : ℕ) : Type 0 where
-  pub still : (k : ℕ) → k < node-count N → k ≢ p → Local N G H k → Local N G' H' k
+  pub still : (k : ℕ) → k < node_count N → k ≢ p → Local N G H k → Local N G' H' k
 
 -- There is a head for every node and for the gate of every series node, whose gain is not too great.
 pub record Lent (N : Nodes) (G H : Stored) : Type 0 where
-  pub room : (k : ℕ) → k < node-count N → Room H k
-  pub gate-room : (k : ℕ) → k < node-count N → kind N k ≡ 1 → Room G (gate N k)
-  pub gate-gain : (k : ℕ) → k < node-count N → kind N k ≡ 1 → (head_at G (gate N k)).gain ≤ most-gain
+  pub room : (k : ℕ) → k < node_count N → Room H k
+  pub gate_room : (k : ℕ) → k < node_count N → kind N k ≡ 1 → Room G (gate N k)
+  pub gate_gain : (k : ℕ) → k < node_count N → kind N k ≡ 1 → (head_at G (gate N k)).gain ≤ most_gain
 
 -- gate g, or node k, has a head in the words
 pub record GateRoom (words : List ℕ) (g : ℕ) : Type 0 where
-  pub room : Room (gate-heads words) g
+  pub room : Room (gate_heads words) g
 
 pub record NodeRoom (words : List ℕ) (k : ℕ) : Type 0 where
-  pub room : Room (node-heads words) k
+  pub room : Room (node_heads words) k
 
 -- A node's head has been written, and no other.
 pub record NodeWritten (words words' : List ℕ) (k : ℕ) (a : Head) : Type 0 where
-  pub gates : gate-heads words' ≡ gate-heads words
-  pub nodes : node-heads words' ≡ put (node-heads words) k a
+  pub gates : gate_heads words' ≡ gate_heads words
+  pub nodes : node_heads words' ≡ put (node_heads words) k a
 
 -- A gate's head has been written, and no other.
 pub record GateWritten (words words' : List ℕ) (g : ℕ) (a : Head) : Type 0 where
-  pub gates : gate-heads words' ≡ put (gate-heads words) g a
-  pub nodes : node-heads words' ≡ node-heads words
+  pub gates : gate_heads words' ≡ put (gate_heads words) g a
+  pub nodes : node_heads words' ≡ node_heads words
 
 -- the node that gets the ticks of node k: node k itself where its own gate gets them, or where it is no series node
-abbrev pub next-by : ℕ → Item → ℕ → ℕ → ℕ → ℕ
-next-by (suc zero) i l k r = item i l k r
-next-by zero i l k r = k
-next-by (suc (suc a)) i l k r = k
+abbrev pub next_by : ℕ → Item → ℕ → ℕ → ℕ → ℕ
+next_by (suc zero) i l k r = item i l k r
+next_by zero i l k r = k
+next_by (suc (suc a)) i l k r = k
 
 unfoldable pub next_down : Nodes → Stored → Stored → ℕ → ℕ
-next_down N G H k = next-by (kind N k) (turn (head_at H (left N k)) (head_at G (gate N k)) (head_at H (right N k))) (left N k) k (right N k)
+next_down N G H k = next_by (kind N k) (turn (head_at H (left N k)) (head_at G (gate N k)) (head_at H (right N k))) (left N k) k (right N k)
 
 -- from node i down nested series nodes to node j, each time to the item that leads
 pub data Down (N : Nodes) (G H : Stored) (i : ℕ) : ℕ → Type 0 where
@@ -124,7 +124,7 @@ pub data Down (N : Nodes) (G H : Stored) (i : ℕ) : ℕ → Type 0 where
 pub record Walkable (N : Nodes) (G H : Stored) (i : ℕ) : Type 0 where
   pub made : (k : ℕ) → k ≤ i → Made N G H k
   pub left_below : (k : ℕ) → k ≤ i → 0 < kind N k → left N k < k
-  pub right-below : (k : ℕ) → k ≤ i → 0 < kind N k → right N k < k
+  pub right_below : (k : ℕ) → k ≤ i → 0 < kind N k → right N k < k
 
 -- node j is the end of the way down from node i
 pub record Ended (N : Nodes) (G H : Stored) (i j : ℕ) : Type 0 where
@@ -140,29 +140,29 @@ pub data Up (parents : List ℕ) (i : ℕ) : ℕ → Type 0 where
 pub record Renewable (N : Nodes) (parents : List ℕ) (G H : Stored) (j i : ℕ) : Type 0 where
   pub shaped : Shaped N parents
   pub lent : Lent N G H
-  pub node : i < node-count N
+  pub node : i < node_count N
   pub up : Up parents i j
   pub local : (k : ℕ) → k ≤ i → k ≢ j → Local N G H k
 
 -- They have been renewed: the head of node j is right too, and every other that was still is, but for that of i's parent.
 pub record Renewed (N : Nodes) (parents : List ℕ) (G H H' : Stored) (j i : ℕ) : Type 0 where
   pub lent : Lent N G H'
-  pub still : (k : ℕ) → k < node-count N → k ≢ parent parents i → (k ≢ j → Local N G H k) → Local N G H' k
+  pub still : (k : ℕ) → k < node_count N → k ≢ parent parents i → (k ≢ j → Local N G H k) → Local N G H' k
 
 -- The same over the words of a tree and of heads.
 pub record CanMake (tree words : List ℕ) (k : ℕ) : Type 0 where
-  pub made : Made (tree-nodes tree) (gate-heads words) (node-heads words) k
+  pub made : Made (tree_nodes tree) (gate_heads words) (node_heads words) k
 
 pub record CanWalk (tree words : List ℕ) (i : ℕ) : Type 0 where
-  pub walkable : Walkable (tree-nodes tree) (gate-heads words) (node-heads words) i
+  pub walkable : Walkable (tree_nodes tree) (gate_heads words) (node_heads words) i
 
 pub record WalkEnds (tree words : List ℕ) (i j : ℕ) : Type 0 where
-  pub ended : Ended (tree-nodes tree) (gate-heads words) (node-heads words) i j
+  pub ended : Ended (tree_nodes tree) (gate_heads words) (node_heads words) i j
 
 pub record CanRenew (tree words : List ℕ) (j i : ℕ) : Type 0 where
-  pub renewable : Renewable (tree-nodes tree) (tree-parents tree) (gate-heads words) (node-heads words) j i
+  pub renewable : Renewable (tree_nodes tree) (tree_parents tree) (gate_heads words) (node_heads words) j i
 
 -- no head of a gate has been written
 pub record NodesRenewed (tree words words' : List ℕ) (j i : ℕ) : Type 0 where
-  pub gates : gate-heads words' ≡ gate-heads words
-  pub renewed : Renewed (tree-nodes tree) (tree-parents tree) (gate-heads words) (node-heads words) (node-heads words') j i
+  pub gates : gate_heads words' ≡ gate_heads words
+  pub renewed : Renewed (tree_nodes tree) (tree_parents tree) (gate_heads words) (node_heads words) (node_heads words') j i

@@ -1,8 +1,8 @@
 // The head of a node made from those just below it.
 ghost use Rattle.std.specs.Prelude.{◌≡◌};
 ghost use Rattle.ties.specs.Code.{head_of};
-ghost use Rattle.planting.specs.TreeWords.{tree-nodes};
-ghost use Rattle.heads.specs.Stored.{CanMake, CanRenew, NodesRenewed, NodeWritten, gate-heads, node-heads, head-below};
+ghost use Rattle.planting.specs.TreeWords.{tree_nodes};
+ghost use Rattle.heads.specs.Stored.{CanMake, CanRenew, NodesRenewed, NodeWritten, gate_heads, node_heads, head_below};
 
 use crate::head_words::HeadWords;
 use crate::store::{gate_entry, index, node_entry, write_node};
@@ -13,7 +13,7 @@ use ties::{Head, beside, best_of, none};
 // The head that the stored heads just below node i make.
 fn head_below(i: usize, tree: &TreeWords, heads: &HeadWords) -> Head
     requires { CanMake tree.now heads.now i }
-    ensures { head_of result ≡ head-below (tree-nodes tree.now) (gate-heads heads.now) (node-heads heads.now) i }
+    ensures { head_of result ≡ head_below (tree_nodes tree.now) (gate_heads heads.now) (node_heads heads.now) i }
 {
     let kind = kind_at(tree, i);
     if kind == 0 {
@@ -31,7 +31,7 @@ fn head_below(i: usize, tree: &TreeWords, heads: &HeadWords) -> Head
 // Renews the head of node i from the stored heads just below it.
 pub fn renew(i: usize, tree: &TreeWords, heads: &mut HeadWords)
     requires { CanMake tree.now heads.old i }
-    ensures { NodeWritten heads.old heads.new i (head-below (tree-nodes tree.now) (gate-heads heads.old) (node-heads heads.old) i) }
+    ensures { NodeWritten heads.old heads.new i (head_below (tree_nodes tree.now) (gate_heads heads.old) (node_heads heads.old) i) }
 {
     let head = head_below(i, tree, &*heads);
     write_node(heads, i, head);

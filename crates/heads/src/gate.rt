@@ -1,9 +1,9 @@
 // The head of a gate by its steps, and ticks for a gate.
 ghost use Rattle.std.specs.Prelude.{◌≡◌, ℕ, ◌+◌, ◌^◌, ◌≤◌, ◌<◌, get_or, length};
-ghost use Rattle.model.specs.Limits.{max-drop};
+ghost use Rattle.model.specs.Limits.{max_drop};
 ghost use Rattle.ties.specs.Code.{ranks, head_of};
-ghost use Rattle.blockwords.specs.BlockWords.{gates-held};
-ghost use Rattle.heads.specs.Plan.{most-input, heads-of, step-head, StepsHeld};
+ghost use Rattle.blockwords.specs.BlockWords.{gates_held};
+ghost use Rattle.heads.specs.Plan.{most_input, heads_of, step_head, StepsHeld};
 ghost use Rattle.heads.specs.Stored.{GateRoom};
 ghost use Rattle.heads.specs.GateHeads.{GateAdded, GatesUnslowed};
 
@@ -14,8 +14,8 @@ use ties::{Head, keyed, none, rank};
 
 // The head of a tick with this drop and input activity, `width` ticks before the end of its step.
 fn tick_head(width: u32, drop: u32, input: u32, rank: u32) -> Head
-    requires { (drop ≤ max-drop) × (input ≤ most-input) × (rank < ranks) }
-    ensures { head_of result ≡ step-head rank input width drop }
+    requires { (drop ≤ max_drop) × (input ≤ most_input) × (rank < ranks) }
+    ensures { head_of result ≡ step_head rank input width drop }
 {
     let gain = (drop as u64) * (input as u64);
     if gain == 0 {
@@ -26,8 +26,8 @@ fn tick_head(width: u32, drop: u32, input: u32, rank: u32) -> Head
 
 // The head of gate g with the increase k.
 pub fn gate_head(g: u32, k: u32, block: &BlockWords) -> Head
-    requires { (g < gates-held block.now) × StepsHeld block.now }
-    ensures { head_of result ≡ heads-of block.now g k }
+    requires { (g < gates_held block.now) × StepsHeld block.now }
+    ensures { head_of result ≡ heads_of block.now g k }
 {
     let count = step_count(block, g);
     let mut left = k;
@@ -56,8 +56,8 @@ pub fn gate_give_out(
     increases: &mut [u32],
     heads: &mut HeadWords,
 )
-    requires { (g < gates-held block.now) × StepsHeld block.now × (g < length increases.old) × (get_or increases.old g 0 + w < 2 ^ 32) × GateRoom heads.old g }
-    ensures { GateAdded (heads-of block.now) increases.old increases.new heads.old heads.new g w }
+    requires { (g < gates_held block.now) × StepsHeld block.now × (g < length increases.old) × (get_or increases.old g 0 + w < 2 ^ 32) × GateRoom heads.old g }
+    ensures { GateAdded (heads_of block.now) increases.old increases.new heads.old heads.new g w }
 {
     let at = index(g);
     let more = increases[at] + w;
@@ -69,9 +69,9 @@ pub fn gate_give_out(
 // Puts the increases of the gates to 0, and stores the heads that the gates then have.
 pub fn unslowed_heads(block: &BlockWords, increases: &mut [u32], heads: &mut HeadWords)
     requires steps_held { StepsHeld block.now }
-    requires block_in_bounds { gates-held block.now ≤ length increases.old }
-    requires by_index { (g : ℕ) → g < gates-held block.now → GateRoom heads.old g }
-    ensures { GatesUnslowed (heads-of block.now) (gates-held block.now) increases.new heads.old heads.new }
+    requires block_in_bounds { gates_held block.now ≤ length increases.old }
+    requires by_index { (g : ℕ) → g < gates_held block.now → GateRoom heads.old g }
+    ensures { GatesUnslowed (heads_of block.now) (gates_held block.now) increases.new heads.old heads.new }
 {
     let n = gate_count(block);
     let mut g: u32 = 0;

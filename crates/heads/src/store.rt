@@ -1,7 +1,7 @@
 // Heads stored in words, an entry a gate or a node.
 ghost use Rattle.std.specs.Prelude.{◌≡◌, ◌<◌};
 ghost use Rattle.ties.specs.Code.{head_of};
-ghost use Rattle.heads.specs.Stored.{GateRoom, NodeRoom, NodeWritten, GateWritten, head-entries, entry_at, write, gate-heads, node-heads, head_at};
+ghost use Rattle.heads.specs.Stored.{GateRoom, NodeRoom, NodeWritten, GateWritten, head_entries, entry_at, write, gate_heads, node_heads, head_at};
 
 use crate::head_words::{FIRST_NODE, HEAD_WORDS, HeadWords, KEY, WIDTH};
 use ties::{Head, gain_in};
@@ -15,7 +15,7 @@ pub fn index(x: u32) -> usize
 
 // The head at entry e.
 fn read_entry(heads: &HeadWords, e: usize) -> Head
-    requires { e < head-entries }
+    requires { e < head_entries }
     ensures { head_of result ≡ entry_at heads.now e }
 {
     Head {
@@ -26,7 +26,7 @@ fn read_entry(heads: &HeadWords, e: usize) -> Head
 
 // Stores a head at entry e.
 fn write_entry(heads: &mut HeadWords, e: usize, a: Head)
-    requires { e < head-entries }
+    requires { e < head_entries }
     ensures { heads.new ≡ write heads.old e (head_of a) }
 {
     heads[e * HEAD_WORDS + KEY] = a.key;
@@ -36,7 +36,7 @@ fn write_entry(heads: &mut HeadWords, e: usize, a: Head)
 // The head of gate g.
 pub fn gate_entry(heads: &HeadWords, g: usize) -> Head
     requires { GateRoom heads.now g }
-    ensures { head_of result ≡ head_at (gate-heads heads.now) g }
+    ensures { head_of result ≡ head_at (gate_heads heads.now) g }
 {
     read_entry(heads, g)
 }
@@ -44,7 +44,7 @@ pub fn gate_entry(heads: &HeadWords, g: usize) -> Head
 // The head of node i.
 pub fn node_entry(heads: &HeadWords, i: usize) -> Head
     requires { NodeRoom heads.now i }
-    ensures { head_of result ≡ head_at (node-heads heads.now) i }
+    ensures { head_of result ≡ head_at (node_heads heads.now) i }
 {
     read_entry(heads, FIRST_NODE + i)
 }
@@ -68,7 +68,7 @@ pub fn write_node(heads: &mut HeadWords, i: usize, a: Head)
 // The gain of node i's head.
 pub fn node_gain(heads: &HeadWords, i: usize) -> u64
     requires { NodeRoom heads.now i }
-    ensures { result ≡ (head_at (node-heads heads.now) i).gain }
+    ensures { result ≡ (head_at (node_heads heads.now) i).gain }
 {
     let head = node_entry(heads, i);
     gain_in(head.key)

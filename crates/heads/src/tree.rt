@@ -1,6 +1,6 @@
 // The words of a node.
 ghost use Rattle.std.specs.Prelude.{◌≡◌, ◌+◌, ◌*◌, ◌≤◌, get_or};
-ghost use Rattle.planting.specs.TreeWords.{node-words, nodes-held, tree-nodes, tree-parents};
+ghost use Rattle.planting.specs.TreeWords.{node_words, nodes_held, tree_nodes, tree_parents};
 ghost use Rattle.heads.specs.Plan.{kind, left, gate, right, parent, NodeIn};
 
 use crate::store::index;
@@ -8,7 +8,7 @@ use planting::tree_words::{GATE, KIND, LEFT, NODE_WORDS, PARENT, RIGHT, TreeWord
 
 // The number of nodes.
 pub fn node_count(tree: &TreeWords) -> usize
-    ensures { result ≡ nodes-held tree.now }
+    ensures { result ≡ nodes_held tree.now }
 {
     index(tree[0])
 }
@@ -16,8 +16,8 @@ pub fn node_count(tree: &TreeWords) -> usize
 // A word of node i.
 fn word_at(tree: &TreeWords, i: usize, word: usize) -> u32
     requires node_in { NodeIn tree.now i }
-    requires word_le_node_words { word ≤ node-words }
-    ensures { result ≡ get_or tree.now (i * node-words + word) 0 }
+    requires word_le_node_words { word ≤ node_words }
+    ensures { result ≡ get_or tree.now (i * node_words + word) 0 }
 {
     tree[i * NODE_WORDS + word]
 }
@@ -25,7 +25,7 @@ fn word_at(tree: &TreeWords, i: usize, word: usize) -> u32
 // The kind of node i.
 pub fn kind_at(tree: &TreeWords, i: usize) -> u32
     requires { NodeIn tree.now i }
-    ensures { result ≡ kind (tree-nodes tree.now) i }
+    ensures { result ≡ kind (tree_nodes tree.now) i }
 {
     word_at(tree, i, KIND)
 }
@@ -33,7 +33,7 @@ pub fn kind_at(tree: &TreeWords, i: usize) -> u32
 // The left child of node i.
 pub fn left_at(tree: &TreeWords, i: usize) -> usize
     requires { NodeIn tree.now i }
-    ensures { result ≡ left (tree-nodes tree.now) i }
+    ensures { result ≡ left (tree_nodes tree.now) i }
 {
     index(word_at(tree, i, LEFT))
 }
@@ -41,7 +41,7 @@ pub fn left_at(tree: &TreeWords, i: usize) -> usize
 // The gate of node i.
 pub fn gate_at(tree: &TreeWords, i: usize) -> u32
     requires { NodeIn tree.now i }
-    ensures { result ≡ gate (tree-nodes tree.now) i }
+    ensures { result ≡ gate (tree_nodes tree.now) i }
 {
     word_at(tree, i, GATE)
 }
@@ -49,7 +49,7 @@ pub fn gate_at(tree: &TreeWords, i: usize) -> u32
 // The right child of node i.
 pub fn right_at(tree: &TreeWords, i: usize) -> usize
     requires { NodeIn tree.now i }
-    ensures { result ≡ right (tree-nodes tree.now) i }
+    ensures { result ≡ right (tree_nodes tree.now) i }
 {
     index(word_at(tree, i, RIGHT))
 }
@@ -57,7 +57,7 @@ pub fn right_at(tree: &TreeWords, i: usize) -> usize
 // The parent of node i.
 pub fn parent_at(tree: &TreeWords, i: usize) -> usize
     requires { NodeIn tree.now i }
-    ensures { result ≡ parent (tree-parents tree.now) i }
+    ensures { result ≡ parent (tree_parents tree.now) i }
 {
     index(word_at(tree, i, PARENT))
 }

@@ -2,8 +2,8 @@
 ghost use Rattle.std.specs.Prelude.{◌≡◌};
 ghost use Rattle.optimum.specs.Head.{item, turn};
 ghost use Rattle.ties.specs.Code.{head_of};
-ghost use Rattle.planting.specs.TreeWords.{tree-nodes};
-ghost use Rattle.heads.specs.Stored.{CanMake, CanWalk, WalkEnds, gate-heads, node-heads, next_down};
+ghost use Rattle.planting.specs.TreeWords.{tree_nodes};
+ghost use Rattle.heads.specs.Stored.{CanMake, CanWalk, WalkEnds, gate_heads, node_heads, next_down};
 
 use crate::head_words::HeadWords;
 use crate::store::{gate_entry, index, node_entry};
@@ -30,7 +30,7 @@ fn leading(left: Head, gate: Head, right: Head, l: usize, m: usize, r: usize) ->
 // The child of series node i that gets its ticks; node i itself where its gate gets them, or where it is no series node.
 fn next_down(i: usize, tree: &TreeWords, heads: &HeadWords) -> usize
     requires { CanMake tree.now heads.now i }
-    ensures { result ≡ next_down (tree-nodes tree.now) (gate-heads heads.now) (node-heads heads.now) i }
+    ensures { result ≡ next_down (tree_nodes tree.now) (gate_heads heads.now) (node_heads heads.now) i }
 {
     if kind_at(tree, i) != 1 {
         return i;

@@ -2,8 +2,8 @@
 mod longest;
 
 ghost use Rattle.std.specs.Prelude.{List, ℕ};
-ghost use Rattle.model.specs.Answer.{AnswersJudge, judge-answer};
-ghost use Rattle.blockfile.specs.Held.{gate-arrays, wire-arrays};
+ghost use Rattle.model.specs.Answer.{AnswersJudge, judge_answer};
+ghost use Rattle.blockfile.specs.Held.{gate_arrays, wire_arrays};
 ghost use Rattle.loading.specs.HeldFile.{HeldFile};
 
 use crate::longest::longest_with;
@@ -32,8 +32,8 @@ pub fn judge_held(
     order: &[u32],
     increases: &[u32],
 ) -> JudgeAnswer
-    requires { (file : List ℕ) × HeldFile file n m arrival deadline activity (gate-arrays delays.now activities.now counts.now step_widths.now drops.now) (wire-arrays sources.now targets.now wire_delays.now) order.now }
-    ensures { (file : List ℕ) → HeldFile file n m arrival deadline activity (gate-arrays delays.now activities.now counts.now step_widths.now drops.now) (wire-arrays sources.now targets.now wire_delays.now) order.now → AnswersJudge file increases.now (record { answer = judge-answer result; memory = increases.now }) }
+    requires { (file : List ℕ) × HeldFile file n m arrival deadline activity (gate_arrays delays.now activities.now counts.now step_widths.now drops.now) (wire_arrays sources.now targets.now wire_delays.now) order.now }
+    ensures { (file : List ℕ) → HeldFile file n m arrival deadline activity (gate_arrays delays.now activities.now counts.now step_widths.now drops.now) (wire_arrays sources.now targets.now wire_delays.now) order.now → AnswersJudge file increases.now (record { answer = judge_answer result; memory = increases.now }) }
 {
     if increases.len() < n {
         return JudgeAnswer::Refused(Refusal::Room { needed: n });

@@ -3,7 +3,7 @@ pub mod answer;
 
 ghost use Rattle.std.specs.Prelude.{List, ℕ};
 ghost use Rattle.model.specs.Layout.{AnswersLayout, NoSavingRefused};
-ghost use Rattle.blockfile.specs.Held.{gate-arrays, wire-arrays};
+ghost use Rattle.blockfile.specs.Held.{gate_arrays, wire_arrays};
 ghost use Rattle.loading.specs.HeldFile.{HeldFile};
 ghost use Rattle.laying.specs.Answered.{leaves};
 
@@ -31,8 +31,8 @@ pub fn lay_best(
     order: &[u32],
     increases: &mut [u8],
 ) -> LayoutAnswer
-    requires { (file : List ℕ) × HeldFile file n m arrival deadline activity (gate-arrays delays.now activities.now counts.now step_widths.now drops.now) (wire-arrays sources.now targets.now wire_delays.now) order.now }
-    ensures by_index { (file : List ℕ) → HeldFile file n m arrival deadline activity (gate-arrays delays.now activities.now counts.now step_widths.now drops.now) (wire-arrays sources.now targets.now wire_delays.now) order.now → AnswersLayout file increases.old (leaves result increases.new) }
+    requires { (file : List ℕ) × HeldFile file n m arrival deadline activity (gate_arrays delays.now activities.now counts.now step_widths.now drops.now) (wire_arrays sources.now targets.now wire_delays.now) order.now }
+    ensures by_index { (file : List ℕ) → HeldFile file n m arrival deadline activity (gate_arrays delays.now activities.now counts.now step_widths.now drops.now) (wire_arrays sources.now targets.now wire_delays.now) order.now → AnswersLayout file increases.old (leaves result increases.new) }
     ensures no_saving_refused { NoSavingRefused result.number result.saving }
 {
     let needed = 4 * n;

@@ -21,7 +21,7 @@ pub struct LayoutCurve {
 // The curve's pairs to the front of `widths` and `gains`, or the first refusal of 1 to 11 that fits.
 #[unsafe(no_mangle)]
 pub extern "C" fn honduvi_curve(file: &[u8], widths: &mut [u32], gains: &mut [u64]) -> LayoutCurve
-    ensures answers_curve { AnswersCurve file.now (record { for-widths = widths.old; for-gains = gains.old }) (record { answer = told result.number result.place (result.start ∷ result.at_start ∷ result.pairs ∷ []); memory = record { for-widths = widths.new; for-gains = gains.new } }) }
+    ensures answers_curve { AnswersCurve file.now (record { for_widths = widths.old; for_gains = gains.old }) (record { answer = told result.number result.place (result.start ∷ result.at_start ∷ result.pairs ∷ []); memory = record { for_widths = widths.new; for_gains = gains.new } }) }
     ensures unsaid_zero { UnsaidZero result.number result.place (result.start ∷ result.at_start ∷ result.pairs ∷ []) }
     ensures pair_bounds { result.number ≡ 0 → PairBounds result.pairs gains.new }
 {

@@ -4,7 +4,7 @@ pub mod judge;
 pub mod slacks;
 pub mod ticks;
 
-ghost use Rattle.model.specs.Layout.{layout-answer, AnswersLayout, NoSavingRefused};
+ghost use Rattle.model.specs.Layout.{layout_answer, AnswersLayout, NoSavingRefused};
 
 use laying::answer::{LayoutAnswer, refused};
 use laying::lay_best;
@@ -14,7 +14,7 @@ use model::limits::{MAX_GATES, MAX_PAIRS, MAX_WIRES};
 // The best increases of a block file, four bytes each, to the front of `increases`, or the first refusal of 1 to 12 that fits.
 #[unsafe(no_mangle)]
 pub extern "C" fn honduvi_best_increases(file: &[u8], increases: &mut [u8]) -> LayoutAnswer
-    ensures answers_layout { AnswersLayout file.now increases.old (record { answer = layout-answer result.number result.place result.saving; memory = increases.new }) }
+    ensures answers_layout { AnswersLayout file.now increases.old (record { answer = layout_answer result.number result.place result.saving; memory = increases.new }) }
     ensures no_saving_refused { NoSavingRefused result.number result.saving }
 {
     let mut delays = [0u32; MAX_GATES];

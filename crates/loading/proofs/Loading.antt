@@ -7,68 +7,68 @@ use native.Mathlib.Omega.{arith}
 use lib.ListN.{length}
 use Rattle.model.specs.declared.Refusal.{Refusal}
 use Rattle.model.specs.Block.{Block}
-use Rattle.model.specs.File.{found, read-block}
+use Rattle.model.specs.File.{found, read_block}
 use Rattle.model.specs.Refusal.{IllFormed, unread, loop, ends}
 use Rattle.blockfile.specs.declared.read.BlockRead.TheVariants as Whole
 use Rattle.blockfile.specs.Held.{GateArrays, WireArrays, WireRoom}
-use Rattle.blockfile.specs.Reads.{block-passing}
+use Rattle.blockfile.specs.Reads.{block_passing}
 use Rattle.network.specs.declared.Network.{Network}
 use Rattle.network.specs.declared.Network.TheVariants.{Sound, Loop, Ends}
 use Rattle.ordering.specs.Wires.{Lent, InArrays}
 use Rattle.ordering.specs.Order.{Order, SameBeyond}
 use Rattle.network.specs.Judged.{Judged}
-use Rattle.ordering.proofs.Wires.{wired-joined}
-use Rattle.loading.proofs.Held.{gates-are, lent, in-arrays}
-use Rattle.loading.specs.Loads.{block_held, loaded-as, number_of, place_of, Loads}
+use Rattle.ordering.proofs.Wires.{wired_joined}
+use Rattle.loading.proofs.Held.{gates_are, lent, in_arrays}
+use Rattle.loading.specs.Loads.{block_held, loaded_as, number_of, place_of, Loads}
 
 -- a file that was not read
-pub not-read : (file : List ℕ) (x : Refusal) (G : GateArrays) (W : WireArrays)
-    → block-passing file (Whole.Refused x) G W ≡ read-block file
+pub not_read : (file : List ℕ) (x : Refusal) (G : GateArrays) (W : WireArrays)
+    → block_passing file (Whole.Refused x) G W ≡ read_block file
     → IllFormed file (number_of x) (place_of x)
-not-read file x G W e = unread (sym e)
+not_read file x G W e = unread (sym e)
 
 -- the room for wires is kept
-pub room-kept : {W Y : WireArrays} → WireRoom W → length Y.sources ≡ length W.sources → length Y.targets ≡ length W.targets → length Y.delays ≡ length W.delays → WireRoom Y
-room-kept room s t d =
+pub room_kept : {W Y : WireArrays} → WireRoom W → length Y.sources ≡ length W.sources → length Y.targets ≡ length W.targets → length Y.delays ≡ length W.delays → WireRoom Y
+room_kept room s t d =
     record { sources = omega (arith, room.sources); targets = omega (arith, room.targets); delays = omega (arith, room.delays) }
 
 -- an order for another relation that the wires make true
-order-for : {E F : ℕ → ℕ → Type 0} {k n : ℕ} {order : List ℕ} → k ≡ n → ((a b : ℕ) → F a b → E a b) → Order E k order → Order F n order
-order-for {E} {F} {k} {n} {order} e leads o =
+order_for : {E F : ℕ → ℕ → Type 0} {k n : ℕ} {order : List ℕ} → k ≡ n → ((a b : ℕ) → F a b → E a b) → Order E k order → Order F n order
+order_for {E} {F} {k} {n} {order} e leads o =
     subst (λ (x : ℕ). Order F x order) e
     (record {
       place = o.place;
-      names-gate = o.names-gate;
+      names_gate = o.names_gate;
       place_of = o.place_of;
-      has-place = o.has-place;
-      stands-there = o.stands-there;
+      has_place = o.has_place;
+      stands_there = o.stands_there;
       forward = λ (a b : ℕ) (w : F a b). o.forward a b (leads a b w);
     })
 
-module _ (file : List ℕ) (n m arrival deadline activity : ℕ) (G : GateArrays) (W : WireArrays) (e : block-passing file (Whole.Read n m arrival deadline activity) G W ≡ read-block file) where
+module _ (file : List ℕ) (n m arrival deadline activity : ℕ) (G : GateArrays) (W : WireArrays) (e : block_passing file (Whole.Read n m arrival deadline activity) G W ≡ read_block file) where
   abbrev the_block : Block
   the_block = block_held n m arrival deadline activity G W
 
-  read_as : read-block file ≡ found the_block (length file)
+  read_as : read_block file ≡ found the_block (length file)
   read_as = sym e
 
-  arrays-hold : InArrays the_block n m W.sources W.targets
-  arrays-hold = in-arrays file n m arrival deadline activity G W (length file) read_as
+  arrays_hold : InArrays the_block n m W.sources W.targets
+  arrays_hold = in_arrays file n m arrival deadline activity G W (length file) read_as
 
-  pub lent-read : WireRoom W → Lent n m W.sources W.targets
-  lent-read = lent file n m arrival deadline activity G W (length file) read_as
+  pub lent_read : WireRoom W → Lent n m W.sources W.targets
+  lent_read = lent file n m arrival deadline activity G W (length file) read_as
 
-  as-judged : (before order : List ℕ) (net : Network) → SameBeyond n before order → Judged the_block order net → Loads file (loaded-as n m arrival deadline activity net) G W before order
-  as-judged before order Sound same j = (
+  as_judged : (before order : List ℕ) (net : Network) → SameBeyond n before order → Judged the_block order net → Loads file (loaded_as n m arrival deadline activity net) G W before order
+  as_judged before order Sound same j = (
     record { end = length file; reads = read_as; network = j.0 },
-    order-for (gates-are file n m arrival deadline activity G W (length file) read_as) (wired-joined the_block n m W.sources W.targets arrays-hold) j.1,
+    order_for (gates_are file n m arrival deadline activity G W (length file) read_as) (wired_joined the_block n m W.sources W.targets arrays_hold) j.1,
     same,
   )
-  as-judged before order (Loop g) same j = loop the_block (length file) read_as j refl
-  as-judged before order (Ends g) same j = ends the_block (length file) read_as j.0 j.1 refl
+  as_judged before order (Loop g) same j = loop the_block (length file) read_as j refl
+  as_judged before order (Ends g) same j = ends the_block (length file) read_as j.0 j.1 refl
 
   pub loaded : (before order : List ℕ) (net : Network)
       → ((B : Block) → InArrays B n m W.sources W.targets → Judged B order net)
       → SameBeyond n before order
-      → Loads file (loaded-as n m arrival deadline activity net) G W before order
-  loaded before order net j same = as-judged before order net same (j the_block arrays-hold)
+      → Loads file (loaded_as n m arrival deadline activity net) G W before order
+  loaded before order net j same = as_judged before order net same (j the_block arrays_hold)

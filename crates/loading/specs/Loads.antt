@@ -4,8 +4,8 @@ use Rattle.model.specs.declared.Refusal.{Refusal}
 use Rattle.model.specs.declared.Refusal.TheVariants as Refusals
 use Rattle.model.specs.Block.{Block}
 use Rattle.model.specs.Refusal.{WellFormed, IllFormed}
-use Rattle.model.specs.Answer.{refusal-answer}
-use Rattle.blockfile.specs.Held.{GateArrays, WireArrays, gates-held, wires-held}
+use Rattle.model.specs.Answer.{refusal_answer}
+use Rattle.blockfile.specs.Held.{GateArrays, WireArrays, gates_held, wires_held}
 use Rattle.network.specs.declared.Network.{Network}
 use Rattle.network.specs.declared.Network.TheVariants as Networks
 use Rattle.ordering.specs.Wires.{Wired}
@@ -14,22 +14,22 @@ use Rattle.loading.specs.declared.Loaded.{Loaded}
 use Rattle.loading.specs.declared.Loaded.TheVariants.{Sound, Refused}
 
 -- the answer for a block that was read, by the judgement of its network
-abbrev pub loaded-as : ℕ → ℕ → ℕ → ℕ → ℕ → Network → Loaded
-loaded-as n m arrival deadline activity Networks.Sound = Sound n m arrival deadline activity
-loaded-as n m arrival deadline activity (Networks.Loop g) = Refused (Refusals.Loop g)
-loaded-as n m arrival deadline activity (Networks.Ends g) = Refused (Refusals.Ends g)
+abbrev pub loaded_as : ℕ → ℕ → ℕ → ℕ → ℕ → Network → Loaded
+loaded_as n m arrival deadline activity Networks.Sound = Sound n m arrival deadline activity
+loaded_as n m arrival deadline activity (Networks.Loop g) = Refused (Refusals.Loop g)
+loaded_as n m arrival deadline activity (Networks.Ends g) = Refused (Refusals.Ends g)
 
 -- the block that the arrays hold
 abbrev pub block_held : ℕ → ℕ → ℕ → ℕ → ℕ → GateArrays → WireArrays → Block
 block_held n m arrival deadline activity G W =
-    record { arrival = arrival; deadline = deadline; activity = activity; gates = gates-held G n; wires = wires-held W m }
+    record { arrival = arrival; deadline = deadline; activity = activity; gates = gates_held G n; wires = wires_held W m }
 
 -- the number of a refusal, and its place
 abbrev pub number_of : Refusal → ℕ
-number_of r = (refusal-answer r).number
+number_of r = (refusal_answer r).number
 
 abbrev pub place_of : Refusal → ℕ
-place_of r = get_or (refusal-answer r).values 0 0
+place_of r = get_or (refusal_answer r).values 0 0
 
 -- The file is well-formed and its block is in the arrays, with an order of its gates along the wires in the first n elements of `order`, whose others are as in `before`; or the refusal is the first of 1 to 9 that fits.
 -- Free is what the gate and wire arrays hold beyond the block's gates, steps and wires, and what every array holds after a refusal.

@@ -2,9 +2,9 @@
 pub mod numbers;
 
 ghost use Rattle.std.specs.Prelude.{◌≡◌, ◌≤◌, length};
-ghost use Rattle.model.specs.Limits.{max-gates};
-ghost use Rattle.blockfile.specs.Held.{gate-arrays, wire-arrays, GateRoom, WireRoom};
-ghost use Rattle.loading.specs.Loads.{loaded-as, Loads};
+ghost use Rattle.model.specs.Limits.{max_gates};
+ghost use Rattle.blockfile.specs.Held.{gate_arrays, wire_arrays, GateRoom, WireRoom};
+ghost use Rattle.loading.specs.Loads.{loaded_as, Loads};
 
 use blockfile::read::{BlockRead, read_block};
 use model::Refusal;
@@ -33,7 +33,7 @@ fn judged(
     activity: u32,
     network: Network,
 ) -> Loaded
-    ensures { result ≡ loaded-as gates wires arrival deadline activity network }
+    ensures { result ≡ loaded_as gates wires arrival deadline activity network }
 {
     match network {
         Network::Loop { gate } => Loaded::Refused(Refusal::Loop { gate }),
@@ -62,10 +62,10 @@ pub fn load(
     wire_delays: &mut [u32],
     order: &mut [u32],
 ) -> Loaded
-    requires gate_room { GateRoom (gate-arrays delays.old activities.old counts.old step_widths.old drops.old) }
-    requires wire_room { WireRoom (wire-arrays sources.old targets.old wire_delays.old) }
-    requires max_gates_in_bounds { max-gates ≤ length order.old }
-    ensures { Loads file.now result (gate-arrays delays.new activities.new counts.new step_widths.new drops.new) (wire-arrays sources.new targets.new wire_delays.new) order.old order.new }
+    requires gate_room { GateRoom (gate_arrays delays.old activities.old counts.old step_widths.old drops.old) }
+    requires wire_room { WireRoom (wire_arrays sources.old targets.old wire_delays.old) }
+    requires max_gates_in_bounds { max_gates ≤ length order.old }
+    ensures { Loads file.now result (gate_arrays delays.new activities.new counts.new step_widths.new drops.new) (wire_arrays sources.new targets.new wire_delays.new) order.old order.new }
 {
     let mut seen = [0u8; GATES_SQUARED];
     let read = read_block(

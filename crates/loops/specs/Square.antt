@@ -1,14 +1,14 @@
 -- A square of marks, one for each pair of gates, and which gates lead to which.
 use Rattle.std.specs.Prelude.{◌≡◌, ◌≢◌, List, ℕ, suc, ◌+◌, ◌*◌, ◌≤◌, ◌<◌, get_or, set}
-use Rattle.model.specs.Limits.{max-gates}
+use Rattle.model.specs.Limits.{max_gates}
 
 -- the place of the mark for the pair a, b
 abbrev pub pair_place : ℕ → ℕ → ℕ
-pair_place a b = a * max-gates + b
+pair_place a b = a * max_gates + b
 
 -- how many marks a square has
-abbrev pub square-size : ℕ
-square-size = max-gates * max-gates
+abbrev pub square_size : ℕ
+square_size = max_gates * max_gates
 
 -- the pair a, b is marked
 abbrev pub Paired : List ℕ → ℕ → ℕ → Type 0
@@ -50,4 +50,4 @@ pub data PairVisit (k a b : ℕ) (square : List ℕ) : List ℕ → Type 0 where
 pub data SelfVisit (n g found : ℕ) (square : List ℕ) : ℕ → Type 0 where
   found_before : found < n → SelfVisit n g found square found
   unmarked : get_or square (pair_place g g) 0 ≡ 0 → SelfVisit n g found square found
-  found-now : n ≤ found → Paired square g g → SelfVisit n g found square g
+  found_now : n ≤ found → Paired square g g → SelfVisit n g found square g

@@ -1,22 +1,22 @@
 // The lowest gate on a loop, by a square of marks that tells which gates reach which: the mark for gates a and b stands at a * MAX_GATES + b.
 // Asked only when the gates have no order. Public for `network` alone.
 ghost use Rattle.std.specs.Prelude.{◌≡◌, List, ℕ, suc, ◌+◌, ◌≤◌, ◌<◌, length, get_or};
-ghost use Rattle.model.specs.Limits.{max-gates};
+ghost use Rattle.model.specs.Limits.{max_gates};
 ghost use Rattle.model.specs.Block.{Block};
 ghost use Rattle.model.specs.Refusal.{OnLoop};
 ghost use Rattle.ordering.specs.Wires.{Lent, Wired, InArrays};
 ghost use Rattle.ordering.specs.Marks.{First};
-ghost use Rattle.loops.specs.Square.{square-size, Paired, PairMarks, Closing, Closed, PairVisit, SelfVisit};
+ghost use Rattle.loops.specs.Square.{square_size, Paired, PairMarks, Closing, Closed, PairVisit, SelfVisit};
 
 use model::limits::{GATES_SQUARED, MAX_GATES};
 use ordering::marking::at;
 
 // Marks each pair of gates that a wire joins; no mark may be set before.
 fn mark_pairs(m: usize, sources: &[u32], targets: &[u32], square: &mut [u8])
-    requires lent { Lent max-gates m sources.now targets.now }
-    requires square_size_in_bounds { square-size ≤ length square.old }
-    requires by_index { (i : ℕ) → i < square-size → get_or square.old i 0 ≡ 0 }
-    ensures { PairMarks (Wired m sources.now targets.now) max-gates square.new }
+    requires lent { Lent max_gates m sources.now targets.now }
+    requires square_size_in_bounds { square_size ≤ length square.old }
+    requires by_index { (i : ℕ) → i < square_size → get_or square.old i 0 ≡ 0 }
+    ensures { PairMarks (Wired m sources.now targets.now) max_gates square.new }
 {
     let mut i = 0;
     while i < m {
@@ -27,8 +27,8 @@ fn mark_pairs(m: usize, sources: &[u32], targets: &[u32], square: &mut [u8])
 
 // Marks the pair a, b if the pair k, b is marked.
 fn visit_pair(k: usize, a: usize, b: usize, square: &mut [u8])
-    requires k_lt_max_gates { (k < max-gates) × (a < max-gates) × (b < max-gates) }
-    requires square_size_in_bounds { square-size ≤ length square.old }
+    requires k_lt_max_gates { (k < max_gates) × (a < max_gates) × (b < max_gates) }
+    requires square_size_in_bounds { square_size ≤ length square.old }
     ensures { PairVisit k a b square.old square.new }
 {
     if square[k * MAX_GATES + b] == 0 {
@@ -39,8 +39,8 @@ fn visit_pair(k: usize, a: usize, b: usize, square: &mut [u8])
 
 // Marks where gate a leads through gate k, to which it leads.
 fn close_row(n: usize, k: usize, a: usize, square: &mut [u8])
-    requires n_le_max_gates { (n ≤ max-gates) × (k < n) × (a < n) }
-    requires square_size_in_bounds { square-size ≤ length square.old }
+    requires n_le_max_gates { (n ≤ max_gates) × (k < n) × (a < n) }
+    requires square_size_in_bounds { square_size ≤ length square.old }
     requires paired { Paired square.old a k }
     ensures { (start : List ℕ) → Closing start n k a 0 square.old → Closing start n k (a + 1) 0 square.new }
 {
@@ -53,8 +53,8 @@ fn close_row(n: usize, k: usize, a: usize, square: &mut [u8])
 
 // Marks where gate a leads through gate k, if it leads there.
 fn visit_row(n: usize, k: usize, a: usize, square: &mut [u8])
-    requires n_le_max_gates { (n ≤ max-gates) × (k < n) × (a < n) }
-    requires square_size_in_bounds { square-size ≤ length square.old }
+    requires n_le_max_gates { (n ≤ max_gates) × (k < n) × (a < n) }
+    requires square_size_in_bounds { square_size ≤ length square.old }
     ensures { (start : List ℕ) → Closing start n k a 0 square.old → Closing start n k (a + 1) 0 square.new }
 {
     if square[a * MAX_GATES + k] == 0 {
@@ -65,8 +65,8 @@ fn visit_row(n: usize, k: usize, a: usize, square: &mut [u8])
 
 // Lets gate k through: marks where each gate leads through it.
 fn close_gate(n: usize, k: usize, square: &mut [u8])
-    requires n_le_max_gates { (n ≤ max-gates) × (k < n) }
-    requires square_size_in_bounds { square-size ≤ length square.old }
+    requires n_le_max_gates { (n ≤ max_gates) × (k < n) }
+    requires square_size_in_bounds { square_size ≤ length square.old }
     ensures { (start : List ℕ) → Closed start n k square.old → Closed start n (suc k) square.new }
 {
     let mut a = 0;
@@ -78,8 +78,8 @@ fn close_gate(n: usize, k: usize, square: &mut [u8])
 
 // Marks where each gate leads, the wires being the pairs marked before.
 fn close_square(n: usize, square: &mut [u8])
-    requires n_le_max_gates { n ≤ max-gates }
-    requires square_size_in_bounds { square-size ≤ length square.old }
+    requires n_le_max_gates { n ≤ max_gates }
+    requires square_size_in_bounds { square_size ≤ length square.old }
     ensures { Closed square.old n n square.new }
 {
     let mut k = 0;
@@ -91,8 +91,8 @@ fn close_square(n: usize, square: &mut [u8])
 
 // The gate found so far, which is n if there is none; then gate g if its pair with itself is marked.
 fn visit_self(n: usize, g: usize, found: usize, square: &[u8]) -> usize
-    requires g_lt_max_gates { g < max-gates }
-    requires square_size_in_bounds { square-size ≤ length square.now }
+    requires g_lt_max_gates { g < max_gates }
+    requires square_size_in_bounds { square_size ≤ length square.now }
     ensures { SelfVisit n g found square.now result }
 {
     if found < n {
@@ -106,8 +106,8 @@ fn visit_self(n: usize, g: usize, found: usize, square: &[u8]) -> usize
 
 // The lowest gate whose pair with itself is marked, or n where there is none.
 fn first_paired(n: usize, square: &[u8]) -> usize
-    requires n_le_max_gates { n ≤ max-gates }
-    requires square_size_in_bounds { square-size ≤ length square.now }
+    requires n_le_max_gates { n ≤ max_gates }
+    requires square_size_in_bounds { square_size ≤ length square.now }
     ensures { First (λ (g : ℕ). Paired square.now g g) n result }
 {
     let mut found = n;

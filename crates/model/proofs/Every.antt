@@ -16,13 +16,13 @@ pub and_assoc : (a b c : Bool) → a && (b && c) ≡ (a && b) && c
 and_assoc true b c = refl
 and_assoc false b c = refl
 
-pub and-true : (a : Bool) → a && true ≡ a
-and-true true = refl
-and-true false = refl
+pub and_true : (a : Bool) → a && true ≡ a
+and_true true = refl
+and_true false = refl
 
-pub and-false : (a : Bool) → a && false ≡ false
-and-false true = refl
-and-false false = refl
+pub and_false : (a : Bool) → a && false ≡ false
+and_false true = refl
+and_false false = refl
 
 or_assoc : (a b c : Bool) → a || (b || c) ≡ (a || b) || c
 or_assoc true b c = refl
@@ -34,13 +34,13 @@ or_comm true false = refl
 or_comm false true = refl
 or_comm false false = refl
 
-or-false : (a : Bool) → a || false ≡ a
-or-false true = refl
-or-false false = refl
+or_false : (a : Bool) → a || false ≡ a
+or_false true = refl
+or_false false = refl
 
-or-true : (a : Bool) → a || true ≡ true
-or-true true = refl
-or-true false = refl
+or_true : (a : Bool) → a || true ≡ true
+or_true true = refl
+or_true false = refl
 
 module _ {A : Type 0} (test : A → Bool) where
   pub every_append : (xs ys : List A) → every test (xs ++ ys) ≡ every test xs && every test ys
@@ -48,41 +48,41 @@ module _ {A : Type 0} (test : A → Bool) where
   every_append [] ys = refl
   every_append (x ∷ xs) ys = ap (◌&&◌ (test x)) (every_append xs ys) ∙ and_assoc (test x) (every test xs) (every test ys)
 
-  pub every-snoc : (xs : List A) (x : A) → every test (xs ++ (x ∷ [])) ≡ every test xs && test x
+  pub every_snoc : (xs : List A) (x : A) → every test (xs ++ (x ∷ [])) ≡ every test xs && test x
   unfolding every
-  every-snoc xs x = every_append xs (x ∷ []) ∙ ap (◌&&◌ (every test xs)) (and-true (test x))
+  every_snoc xs x = every_append xs (x ∷ []) ∙ ap (◌&&◌ (every test xs)) (and_true (test x))
 
   -- one more element of a `build`
   pub every_more : (n : ℕ) (f : ℕ → A) → every test (build (suc n) f) ≡ every test (build n f) && test (f n)
   unfolding build
-  every_more n f = every-snoc (build n f) (f n)
+  every_more n f = every_snoc (build n f) (f n)
 
   -- every element passes ..
-  pub every-passes : (n : ℕ) (f : ℕ → A) → ((i : ℕ) → i < n → test (f i) ≡ true) → every test (build n f) ≡ true
+  pub every_passes : (n : ℕ) (f : ℕ → A) → ((i : ℕ) → i < n → test (f i) ≡ true) → every test (build n f) ≡ true
   unfolding every build
-  every-passes zero f p = refl
-  every-passes (suc n) f p = every_more n f ∙ rw (every-passes n f (λ (i : ℕ) (h : i < n). p i (omega arith)), p n (omega arith))
+  every_passes zero f p = refl
+  every_passes (suc n) f p = every_more n f ∙ rw (every_passes n f (λ (i : ℕ) (h : i < n). p i (omega arith)), p n (omega arith))
 
   -- .. or one fails
-  pub every-fails : (xs : List A) (i : ℕ) (d : A) → i < length xs → test (get_or xs i d) ≡ false → every test xs ≡ false
+  pub every_fails : (xs : List A) (i : ℕ) (d : A) → i < length xs → test (get_or xs i d) ≡ false → every test xs ≡ false
   unfolding every
-  every-fails [] i d h e = absurd (not-suc-le-zero h)
-  every-fails (x ∷ xs) zero d h e = rw e
-  every-fails (x ∷ xs) (suc i) d h e = rw (every-fails xs i d (le_of_suc-le-suc h) e) (and-false (test x))
+  every_fails [] i d h e = absurd (not-suc-le-zero h)
+  every_fails (x ∷ xs) zero d h e = rw e
+  every_fails (x ∷ xs) (suc i) d h e = rw (every_fails xs i d (le_of_suc-le-suc h) e) (and_false (test x))
 
   -- what every element passes, each passes ..
-  pub every-at : (xs : List A) (i : ℕ) (d : A) → T (every test xs) → i < length xs → T (test (get_or xs i d))
+  pub every_at : (xs : List A) (i : ℕ) (d : A) → T (every test xs) → i < length xs → T (test (get_or xs i d))
   unfolding every
-  every-at [] i d t h = absurd (not-suc-le-zero h)
-  every-at (x ∷ xs) zero d t h = and_left (test x) (every test xs) t
-  every-at (x ∷ xs) (suc i) d t h = every-at xs i d (and_right (test x) (every test xs) t) (le_of_suc-le-suc h)
+  every_at [] i d t h = absurd (not-suc-le-zero h)
+  every_at (x ∷ xs) zero d t h = and_left (test x) (every test xs) t
+  every_at (x ∷ xs) (suc i) d t h = every_at xs i d (and_right (test x) (every test xs) t) (le_of_suc-le-suc h)
 
   -- .. and so does what stands for a place beyond the end, if it passes
-  pub every-anywhere : (xs : List A) (i : ℕ) (d : A) → T (every test xs) → T (test d) → T (test (get_or xs i d))
+  pub every_anywhere : (xs : List A) (i : ℕ) (d : A) → T (every test xs) → T (test d) → T (test (get_or xs i d))
   unfolding every
-  every-anywhere [] i d t u = u
-  every-anywhere (x ∷ xs) zero d t u = and_left (test x) (every test xs) t
-  every-anywhere (x ∷ xs) (suc i) d t u = every-anywhere xs i d (and_right (test x) (every test xs) t) u
+  every_anywhere [] i d t u = u
+  every_anywhere (x ∷ xs) zero d t u = and_left (test x) (every test xs) t
+  every_anywhere (x ∷ xs) (suc i) d t u = every_anywhere xs i d (and_right (test x) (every test xs) t) u
 
   -- so it is seen through f
   pub every_map : {B : Type 0} (f : B → A) (xs : List B) → every test (map f xs) ≡ every (λ (x : B). test (f x)) xs
@@ -91,34 +91,34 @@ module _ {A : Type 0} (test : A → Bool) where
   every_map f (x ∷ xs) = ap (◌&&◌ (test (f x))) (every_map f xs)
 
   -- a weaker test passes, too
-  pub every-weaker : (weaker : A → Bool) → ((x : A) → T (test x) → T (weaker x)) → (xs : List A) → T (every test xs) → T (every weaker xs)
+  pub every_weaker : (weaker : A → Bool) → ((x : A) → T (test x) → T (weaker x)) → (xs : List A) → T (every test xs) → T (every weaker xs)
   unfolding every
-  every-weaker weaker w [] t = tt
-  every-weaker weaker w (x ∷ xs) t =
-      and_both (weaker x) (every weaker xs) (w x (and_left (test x) (every test xs) t)) (every-weaker weaker w xs (and_right (test x) (every test xs) t))
+  every_weaker weaker w [] t = tt
+  every_weaker weaker w (x ∷ xs) t =
+      and_both (weaker x) (every weaker xs) (w x (and_left (test x) (every test xs) t)) (every_weaker weaker w xs (and_right (test x) (every test xs) t))
 
-  pub some-append : (xs ys : List A) → some test (xs ++ ys) ≡ some test xs || some test ys
+  pub some_append : (xs ys : List A) → some test (xs ++ ys) ≡ some test xs || some test ys
   unfolding some
-  some-append [] ys = refl
-  some-append (x ∷ xs) ys = ap (◌||◌ (test x)) (some-append xs ys) ∙ or_assoc (test x) (some test xs) (some test ys)
+  some_append [] ys = refl
+  some_append (x ∷ xs) ys = ap (◌||◌ (test x)) (some_append xs ys) ∙ or_assoc (test x) (some test xs) (some test ys)
 
-  pub some-reverse : (xs : List A) → some test (reverse xs) ≡ some test xs
+  pub some_reverse : (xs : List A) → some test (reverse xs) ≡ some test xs
   unfolding some
-  some-reverse [] = refl
-  some-reverse (x ∷ xs) =
+  some_reverse [] = refl
+  some_reverse (x ∷ xs) =
       ap (some test) (reverse-cons x xs)
-      ∙ some-append (reverse xs) (x ∷ [])
-      ∙ rw (some-reverse xs, or-false (test x)) (or_comm (some test xs) (test x))
+      ∙ some_append (reverse xs) (x ∷ [])
+      ∙ rw (some_reverse xs, or_false (test x)) (or_comm (some test xs) (test x))
 
   -- one element passes ..
-  pub some-passes : (xs : List A) (i : ℕ) (d : A) → i < length xs → test (get_or xs i d) ≡ true → some test xs ≡ true
+  pub some_passes : (xs : List A) (i : ℕ) (d : A) → i < length xs → test (get_or xs i d) ≡ true → some test xs ≡ true
   unfolding some
-  some-passes [] i d h e = absurd (not-suc-le-zero h)
-  some-passes (x ∷ xs) zero d h e = rw e
-  some-passes (x ∷ xs) (suc i) d h e = rw (some-passes xs i d (le_of_suc-le-suc h) e) (or-true (test x))
+  some_passes [] i d h e = absurd (not-suc-le-zero h)
+  some_passes (x ∷ xs) zero d h e = rw e
+  some_passes (x ∷ xs) (suc i) d h e = rw (some_passes xs i d (le_of_suc-le-suc h) e) (or_true (test x))
 
   -- .. or every element fails
-  pub some-fails : (xs : List A) (d : A) → ((i : ℕ) → i < length xs → test (get_or xs i d) ≡ false) → some test xs ≡ false
+  pub some_fails : (xs : List A) (d : A) → ((i : ℕ) → i < length xs → test (get_or xs i d) ≡ false) → some test xs ≡ false
   unfolding some
-  some-fails [] d p = refl
-  some-fails (x ∷ xs) d p = rw (p 0 (omega arith)) (some-fails xs d (λ (i : ℕ) (h : i < length xs). p (suc i) (omega arith)))
+  some_fails [] d p = refl
+  some_fails (x ∷ xs) d p = rw (p 0 (omega arith)) (some_fails xs d (λ (i : ℕ) (h : i < length xs). p (suc i) (omega arith)))

@@ -26,14 +26,14 @@ further : {ws : List Wire} (d : ℕ → ℕ) {a b c w t : ℕ} → w ≡ 0 → S
 unfolding total
 further d {a = a} {w = w} none on r = let e = r.2 in (a ∷ r.0, along (w, on) r.1, omega arith)
 
-pub lasts-its-gates : {ws : List Wire} {d : ℕ → ℕ} {a b t : ℕ} → Undelayed ws → Path ws d a b t → ByGates ws d a b t
+pub lasts_its_gates : {ws : List Wire} {d : ℕ → ℕ} {a b t : ℕ} → Undelayed ws → Path ws d a b t → ByGates ws d a b t
 unfolding total
-lasts-its-gates {d = d} {a = a} none stay = (a ∷ [], here, sym (add-zero (d a)))
-lasts-its-gates {d = d} none (go {a = a} {c = c} {w = w} on rest) = further d (none a c w on) on (lasts-its-gates none rest)
+lasts_its_gates {d = d} {a = a} none stay = (a ∷ [], here, sym (add-zero (d a)))
+lasts_its_gates {d = d} none (go {a = a} {c = c} {w = w} on rest) = further d (none a c w on) on (lasts_its_gates none rest)
 
-pub gates-make-a-path : {ws : List Wire} (d : ℕ → ℕ) {a b : ℕ} {gs : List ℕ} → Undelayed ws → Passes ws a b gs → Path ws d a b (total d gs)
+pub gates_make_a_path : {ws : List Wire} (d : ℕ → ℕ) {a b : ℕ} {gs : List ℕ} → Undelayed ws → Passes ws a b gs → Path ws d a b (total d gs)
 unfolding total
-gates-make-a-path d none (here {a = a}) = rw (add-zero (d a)) stay
-gates-make-a-path {ws} d none (along {a = a} {b = b} {c = c} {gs = gs} on rest) =
+gates_make_a_path d none (here {a = a}) = rw (add-zero (d a)) stay
+gates_make_a_path {ws} d none (along {a = a} {b = b} {c = c} {gs = gs} on rest) =
     let e : d a + on.0 + total d gs ≡ d a + total d gs = omega (arith, none a c on.0 on.1) in
-    rw e at (go on.1 (gates-make-a-path d none rest))
+    rw e at (go on.1 (gates_make_a_path d none rest))

@@ -12,24 +12,24 @@ use lib.Dec.{ltb}
 use lib.ListN.{length, drop}
 use lib.Seq.{append_snoc}
 use Rattle.lists.specs.Over.{build}
-use Rattle.lists.proofs.Over.{build-same}
-use Rattle.model.proofs.Every.{and-true, and_assoc, and-false}
+use Rattle.lists.proofs.Over.{build_same}
+use Rattle.model.proofs.Every.{and_true, and_assoc, and_false}
 use Rattle.model.specs.Block.{Step}
 use Rattle.model.specs.Field.{number}
-use Rattle.model.specs.File.{steps-in, falls, falls_below}
+use Rattle.model.specs.File.{steps_in, falls, falls_below}
 
 -- a `build` from its front
-build-front : {A : Type 0} (n : ℕ) (f : ℕ → A) → build (suc n) f ≡ f 0 ∷ build n (λ (i : ℕ). f (suc i))
+build_front : {A : Type 0} (n : ℕ) (f : ℕ → A) → build (suc n) f ≡ f 0 ∷ build n (λ (i : ℕ). f (suc i))
 unfolding build
-build-front zero f = refl
-build-front (suc n) f = rw (build-front n f)
+build_front zero f = refl
+build_front (suc n) f = rw (build_front n f)
 
 -- step i of the steps written from the front of b on
-abbrev pub step-at : List ℕ → ℕ → Step
-step-at b i = record { width = number b (4 * i); drop = number b (4 * i + 2) }
+abbrev pub step_at : List ℕ → ℕ → Step
+step_at b i = record { width = number b (4 * i); drop = number b (4 * i + 2) }
 
-step-at-next : (a b c d : ℕ) (rest : List ℕ) (i : ℕ) → step-at (a ∷ b ∷ c ∷ d ∷ rest) (suc i) ≡ step-at rest i
-step-at-next a b c d rest i =
+step_at_next : (a b c d : ℕ) (rest : List ℕ) (i : ℕ) → step_at (a ∷ b ∷ c ∷ d ∷ rest) (suc i) ≡ step_at rest i
+step_at_next a b c d rest i =
     let p : 4 * suc i + 2 + 1 ≡ suc (suc (suc (suc (4 * i + 2 + 1)))) = omega arith in
     let q : 4 * suc i + 2 ≡ suc (suc (suc (suc (4 * i + 2)))) = omega arith in
     let r : 4 * suc i + 1 ≡ suc (suc (suc (suc (4 * i + 1)))) = omega arith in
@@ -37,67 +37,67 @@ step-at-next a b c d rest i =
     rw (p, q, r, t)
 
 -- k steps are those at 0 to k − 1
-pub steps-by-index : (b : List ℕ) (k : ℕ) → length b ≡ 4 * k → steps-in b ≡ build k (step-at b)
-unfolding steps-in build
-steps-by-index [] zero e = refl
-steps-by-index [] (suc k) e = absurd (omega arith)
-steps-by-index (a ∷ []) k e = absurd (omega arith)
-steps-by-index (a ∷ b ∷ []) k e = absurd (omega arith)
-steps-by-index (a ∷ b ∷ c ∷ []) k e = absurd (omega arith)
-steps-by-index (a ∷ b ∷ c ∷ d ∷ rest) zero e = absurd (omega arith)
-steps-by-index (a ∷ b ∷ c ∷ d ∷ rest) (suc k) e =
-    ap (◌∷◌ (step-at (a ∷ b ∷ c ∷ d ∷ rest) 0))
-    (steps-by-index rest k (omega arith)
-    ∙ build-same k (step-at rest) (λ (i : ℕ). step-at (a ∷ b ∷ c ∷ d ∷ rest) (suc i)) (λ (i : ℕ) (h : i < k). sym (step-at-next a b c d rest i)))
-    ∙ sym (build-front k (step-at (a ∷ b ∷ c ∷ d ∷ rest)))
+pub steps_by_index : (b : List ℕ) (k : ℕ) → length b ≡ 4 * k → steps_in b ≡ build k (step_at b)
+unfolding steps_in build
+steps_by_index [] zero e = refl
+steps_by_index [] (suc k) e = absurd (omega arith)
+steps_by_index (a ∷ []) k e = absurd (omega arith)
+steps_by_index (a ∷ b ∷ []) k e = absurd (omega arith)
+steps_by_index (a ∷ b ∷ c ∷ []) k e = absurd (omega arith)
+steps_by_index (a ∷ b ∷ c ∷ d ∷ rest) zero e = absurd (omega arith)
+steps_by_index (a ∷ b ∷ c ∷ d ∷ rest) (suc k) e =
+    ap (◌∷◌ (step_at (a ∷ b ∷ c ∷ d ∷ rest) 0))
+    (steps_by_index rest k (omega arith)
+    ∙ build_same k (step_at rest) (λ (i : ℕ). step_at (a ∷ b ∷ c ∷ d ∷ rest) (suc i)) (λ (i : ℕ) (h : i < k). sym (step_at_next a b c d rest i)))
+    ∙ sym (build_front k (step_at (a ∷ b ∷ c ∷ d ∷ rest)))
 
-and-regroup : (a b : Bool) → a && (b && true) ≡ (a && true) && b
-and-regroup true true = refl
-and-regroup true false = refl
-and-regroup false b = refl
+and_regroup : (a b : Bool) → a && (b && true) ≡ (a && true) && b
+and_regroup true true = refl
+and_regroup true false = refl
+and_regroup false b = refl
 
-falls-below-snoc : (bound : ℕ) (xs : List Step) (x y : Step) → falls_below bound (xs ++ (x ∷ y ∷ [])) ≡ falls_below bound (xs ++ (x ∷ [])) && ltb y.drop x.drop
+falls_below_snoc : (bound : ℕ) (xs : List Step) (x y : Step) → falls_below bound (xs ++ (x ∷ y ∷ [])) ≡ falls_below bound (xs ++ (x ∷ [])) && ltb y.drop x.drop
 unfolding falls_below
-falls-below-snoc bound [] x y = and-regroup (ltb x.drop bound) (ltb y.drop x.drop)
-falls-below-snoc bound (s ∷ ss) x y =
-    ap (◌&&◌ (ltb s.drop bound)) (falls-below-snoc s.drop ss x y)
+falls_below_snoc bound [] x y = and_regroup (ltb x.drop bound) (ltb y.drop x.drop)
+falls_below_snoc bound (s ∷ ss) x y =
+    ap (◌&&◌ (ltb s.drop bound)) (falls_below_snoc s.drop ss x y)
     ∙ and_assoc (ltb s.drop bound) (falls_below s.drop (ss ++ (x ∷ []))) (ltb y.drop x.drop)
 
-falls-snoc : (xs : List Step) (x y : Step) → falls (xs ++ (x ∷ y ∷ [])) ≡ falls (xs ++ (x ∷ [])) && ltb y.drop x.drop
+falls_snoc : (xs : List Step) (x y : Step) → falls (xs ++ (x ∷ y ∷ [])) ≡ falls (xs ++ (x ∷ [])) && ltb y.drop x.drop
 unfolding falls falls_below
-falls-snoc [] x y = and-true (ltb y.drop x.drop)
-falls-snoc (s ∷ ss) x y = falls-below-snoc s.drop ss x y
+falls_snoc [] x y = and_true (ltb y.drop x.drop)
+falls_snoc (s ∷ ss) x y = falls_below_snoc s.drop ss x y
 
 -- no step and one step fall ..
-pub falls-none : (f : ℕ → Step) → falls (build 0 f) ≡ true
+pub falls_none : (f : ℕ → Step) → falls (build 0 f) ≡ true
 unfolding falls build
-falls-none f = refl
+falls_none f = refl
 
-pub falls-one : (f : ℕ → Step) → falls (build 1 f) ≡ true
+pub falls_one : (f : ℕ → Step) → falls (build 1 f) ≡ true
 unfolding falls build falls_below
-falls-one f = refl
+falls_one f = refl
 
 -- .. and one more step falls if it is below the one before
-pub falls-more : (n : ℕ) (f : ℕ → Step) → falls (build (suc (suc n)) f) ≡ falls (build (suc n) f) && ltb (f (suc n)).drop (f n).drop
+pub falls_more : (n : ℕ) (f : ℕ → Step) → falls (build (suc (suc n)) f) ≡ falls (build (suc n) f) && ltb (f (suc n)).drop (f n).drop
 unfolding build
-falls-more n f = rw (append_snoc (build n f) (f n) (f (suc n) ∷ [])) (falls-snoc (build n f) (f n) (f (suc n)))
+falls_more n f = rw (append_snoc (build n f) (f n) (f (suc n) ∷ [])) (falls_snoc (build n f) (f n) (f (suc n)))
 
 -- every step is below the one before ..
-pub falls-passes : (n : ℕ) (f : ℕ → Step) → ((i : ℕ) → suc i < n → (f (suc i)).drop < (f i).drop) → falls (build n f) ≡ true
-falls-passes zero f p = falls-none f
-falls-passes (suc zero) f p = falls-one f
-falls-passes (suc (suc n)) f p =
-    falls-more n f
-    ∙ rw (falls-passes (suc n) f (λ (i : ℕ) (h : suc i < suc n). p i (omega arith)), lt-ltb (f (suc n)).drop (f n).drop (p n (omega arith)))
+pub falls_passes : (n : ℕ) (f : ℕ → Step) → ((i : ℕ) → suc i < n → (f (suc i)).drop < (f i).drop) → falls (build n f) ≡ true
+falls_passes zero f p = falls_none f
+falls_passes (suc zero) f p = falls_one f
+falls_passes (suc (suc n)) f p =
+    falls_more n f
+    ∙ rw (falls_passes (suc n) f (λ (i : ℕ) (h : suc i < suc n). p i (omega arith)), lt-ltb (f (suc n)).drop (f n).drop (p n (omega arith)))
 
 -- .. or one is not
-pub falls-fails : (n : ℕ) (f : ℕ → Step) (i : ℕ) → suc i < n → (f i).drop ≤ (f (suc i)).drop → falls (build n f) ≡ false
-falls-fails zero f i h l = absurd (not-suc-le-zero h)
-falls-fails (suc zero) f i h l = absurd (omega arith)
-falls-fails (suc (suc n)) f i h l =
-    falls-more n f
+pub falls_fails : (n : ℕ) (f : ℕ → Step) (i : ℕ) → suc i < n → (f i).drop ≤ (f (suc i)).drop → falls (build n f) ≡ false
+falls_fails zero f i h l = absurd (not-suc-le-zero h)
+falls_fails (suc zero) f i h l = absurd (omega arith)
+falls_fails (suc (suc n)) f i h l =
+    falls_more n f
     ∙ ⊎_elim
     (λ (e : i ≡ n).
-    rw (← e, le-ltb (f (suc i)).drop (f i).drop l) (and-false (falls (build (suc i) f))))
-    (λ (k : i < n). rw (falls-fails (suc n) f i (omega arith) l))
+    rw (← e, le-ltb (f (suc i)).drop (f i).drop l) (and_false (falls (build (suc i) f))))
+    (λ (k : i < n). rw (falls_fails (suc n) f i (omega arith) l))
     (eq-or-lt_of_le (le_of_suc-le-suc (le_of_suc-le-suc h)))

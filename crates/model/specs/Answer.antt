@@ -10,8 +10,8 @@ use Rattle.model.specs.declared.CurveAnswer as Curve
 use Rattle.model.specs.declared.BestAnswer as Best
 use Rattle.model.specs.declared.JudgeAnswer as Judge
 use Rattle.model.specs.declared.TicksAnswer as Ticks
-use Rattle.model.specs.Limits.{max-pairs, max-gain}
-use Rattle.model.specs.Block.{Block, gate, gate-count, first, last, widths}
+use Rattle.model.specs.Limits.{max_pairs, max_gain}
+use Rattle.model.specs.Block.{Block, gate, gate_count, first, last, widths}
 use Rattle.model.specs.Path.{Path}
 use Rattle.model.specs.Gain.{saving}
 use Rattle.model.specs.InTime.{slowed}
@@ -35,47 +35,47 @@ abbrev pub refusal : ℕ → ℕ → Answer
 refusal k p = record { number = k; values = p ∷ [] }
 
 -- the table of refusals
-abbrev pub refusal-answer : Refusal → Answer
-refusal-answer (Short o) = refusal 1 o
-refusal-answer (Tag o) = refusal 2 o
-refusal-answer (Length o) = refusal 3 o
-refusal-answer (Range o) = refusal 4 o
-refusal-answer (Drops o) = refusal 5 o
-refusal-answer (Wire o) = refusal 6 o
-refusal-answer (Excess o) = refusal 7 o
-refusal-answer (Loop g) = refusal 8 g
-refusal-answer (Ends g) = refusal 9 g
-refusal-answer (Room n) = refusal 10 n
-refusal-answer (NotSeriesParallel g) = refusal 11 g
-refusal-answer Late = refusal 12 0
-refusal-answer (Widths g) = refusal 13 g
-refusal-answer PathLate = refusal 14 0
-refusal-answer Unreached = refusal 17 0
+abbrev pub refusal_answer : Refusal → Answer
+refusal_answer (Short o) = refusal 1 o
+refusal_answer (Tag o) = refusal 2 o
+refusal_answer (Length o) = refusal 3 o
+refusal_answer (Range o) = refusal 4 o
+refusal_answer (Drops o) = refusal 5 o
+refusal_answer (Wire o) = refusal 6 o
+refusal_answer (Excess o) = refusal 7 o
+refusal_answer (Loop g) = refusal 8 g
+refusal_answer (Ends g) = refusal 9 g
+refusal_answer (Room n) = refusal 10 n
+refusal_answer (NotSeriesParallel g) = refusal 11 g
+refusal_answer Late = refusal 12 0
+refusal_answer (Widths g) = refusal 13 g
+refusal_answer PathLate = refusal 14 0
+refusal_answer Unreached = refusal 17 0
 
 -- slacks: how many were written
-abbrev pub slacks-answer : Slacks.SlacksAnswer → Answer
-slacks-answer (Slacks.TheVariants.Given n) = accepted (n ∷ [])
-slacks-answer (Slacks.TheVariants.Refused r) = refusal-answer r
+abbrev pub slacks_answer : Slacks.SlacksAnswer → Answer
+slacks_answer (Slacks.TheVariants.Given n) = accepted (n ∷ [])
+slacks_answer (Slacks.TheVariants.Refused r) = refusal_answer r
 
 -- the curve: start, saving at start, how many pairs were written
-abbrev pub curve-answer : Curve.CurveAnswer → Answer
-curve-answer (Curve.TheVariants.Given s a n) = accepted (s ∷ a ∷ n ∷ [])
-curve-answer (Curve.TheVariants.Refused r) = refusal-answer r
+abbrev pub curve_answer : Curve.CurveAnswer → Answer
+curve_answer (Curve.TheVariants.Given s a n) = accepted (s ∷ a ∷ n ∷ [])
+curve_answer (Curve.TheVariants.Refused r) = refusal_answer r
 
 -- the best increases: the saving, how many were written
-abbrev pub best-answer : Best.BestAnswer → Answer
-best-answer (Best.TheVariants.Given s n) = accepted (s ∷ n ∷ [])
-best-answer (Best.TheVariants.Refused r) = refusal-answer r
+abbrev pub best_answer : Best.BestAnswer → Answer
+best_answer (Best.TheVariants.Given s n) = accepted (s ∷ n ∷ [])
+best_answer (Best.TheVariants.Refused r) = refusal_answer r
 
 -- judging: the saving
-abbrev pub judge-answer : Judge.JudgeAnswer → Answer
-judge-answer (Judge.TheVariants.Accepted s) = accepted (s ∷ [])
-judge-answer (Judge.TheVariants.Refused r) = refusal-answer r
+abbrev pub judge_answer : Judge.JudgeAnswer → Answer
+judge_answer (Judge.TheVariants.Accepted s) = accepted (s ∷ [])
+judge_answer (Judge.TheVariants.Refused r) = refusal_answer r
 
 -- the fewest ticks: how many
-abbrev pub ticks-answer : Ticks.TicksAnswer → Answer
-ticks-answer (Ticks.TheVariants.Given k) = accepted (k ∷ [])
-ticks-answer (Ticks.TheVariants.Refused r) = refusal-answer r
+abbrev pub ticks_answer : Ticks.TicksAnswer → Answer
+ticks_answer (Ticks.TheVariants.Given k) = accepted (k ∷ [])
+ticks_answer (Ticks.TheVariants.Refused r) = refusal_answer r
 
 -- What a call leaves: its answer, and what the memory lent to it holds afterwards.
 pub record Outcome (S : Type 0) : Type 0 where
@@ -93,8 +93,8 @@ At place when p = (p ≡ place) × when
 
 -- The lines 1 to 9, which every call has in common; then, of the block that the file holds, what the further lines say.
 pub data Judged {S : Type 0} (file : List ℕ) (lent : S) (further : Block → Outcome S → Type 0) (o : Outcome S) : Type 0 where
-  ill-formed : (k p : ℕ) → IllFormed file k p → o ≡ record { answer = refusal k p; memory = lent } → Judged file lent further o
-  well-formed : (B : Block) → WellFormed file B → further B o → Judged file lent further o
+  ill_formed : (k p : ℕ) → IllFormed file k p → o ≡ record { answer = refusal k p; memory = lent } → Judged file lent further o
+  well_formed : (B : Block) → WellFormed file B → further B o → Judged file lent further o
 
 -- an accepted answer with its values, and the memory afterwards
 abbrev pub Gives : {S : Type 0} → List ℕ → S → Outcome S → Type 0
@@ -117,11 +117,11 @@ abbrev pub AnswersSlacks : List ℕ → List ℤ → Outcome (List ℤ) → Type
 AnswersSlacks file lent =
     Judged file lent
     (λ (B : Block).
-    Line lent 10 (Shorter lent (gate-count B)) (Gives (gate-count B ∷ []) (over (build (gate-count B) (slack B)) lent)))
+    Line lent 10 (Shorter lent (gate_count B)) (Gives (gate_count B ∷ []) (over (build (gate_count B) (slack B)) lent)))
 
 -- the increase of gate g exceeds its widths
 abbrev pub Exceeds : Block → List ℕ → ℕ → Type 0
-Exceeds B x g = (g < gate-count B) × (widths (gate B g).steps < get_or x g 0)
+Exceeds B x g = (g < gate_count B) × (widths (gate B g).steps < get_or x g 0)
 
 -- some path is not in time under the increases x
 abbrev pub PathNotInTime : Block → List ℕ → Type 0
@@ -132,24 +132,24 @@ abbrev pub AnswersJudge : List ℕ → List ℕ → Outcome (List ℕ) → Type 
 AnswersJudge file lent =
     Judged file lent
     (λ (B : Block).
-    let x = take (gate-count B) lent in
-    Line lent 10 (Shorter lent (gate-count B))
+    let x = take (gate_count B) lent in
+    Line lent 10 (Shorter lent (gate_count B))
     (Line lent 13 (Lowest (Exceeds B x)) (Line lent 14 (At 0 (PathNotInTime B x)) (Gives (saving B x ∷ []) lent))))
 
 -- the two slices that a curve's widths and gains go to
 pub record Slices : Type 0 where
-  pub for-widths : List ℕ
-  pub for-gains : List ℕ
+  pub for_widths : List ℕ
+  pub for_gains : List ℕ
 
 -- the curve of the block, its pairs in front of the two slices
 pub data GivesCurve (B : Block) (lent : Slices) (o : Outcome Slices) : Type 0 where
-  curve : (start at-start : ℕ) (pairs : List Pair)
+  curve : (start at_start : ℕ) (pairs : List Pair)
       → SeriesParallel B
-      → IsCurve B start at-start pairs
-      → Gives (start ∷ at-start ∷ length pairs ∷ [])
+      → IsCurve B start at_start pairs
+      → Gives (start ∷ at_start ∷ length pairs ∷ [])
       (record {
-        for-widths = over (map (λ (p : Pair). p.width) pairs) lent.for-widths;
-        for-gains = over (map (λ (p : Pair). p.gain) pairs) lent.for-gains;
+        for_widths = over (map (λ (p : Pair). p.width) pairs) lent.for_widths;
+        for_gains = over (map (λ (p : Pair). p.gain) pairs) lent.for_gains;
       })
       o
       → GivesCurve B lent o
@@ -163,23 +163,23 @@ abbrev pub AnswersCurve : List ℕ → Slices → Outcome Slices → Type 0
 AnswersCurve file lent =
     Judged file lent
     (λ (B : Block).
-    Line lent 10 (Shorter lent.for-widths max-pairs)
-    (Line lent 10 (Shorter lent.for-gains max-pairs) (CurveLines B lent)))
+    Line lent 10 (Shorter lent.for_widths max_pairs)
+    (Line lent 10 (Shorter lent.for_gains max_pairs) (CurveLines B lent)))
 
 -- "1,600 pairs, the most there can be", and "a pair's gain is now at most 199 × 65,535 × 1,000" (document 02, K10): so many pairs, whose gains are in the slice
 abbrev pub PairBounds : ℕ → List ℕ → Type 0
-PairBounds pairs gains = (pairs ≤ max-pairs) × ((i : ℕ) → i < pairs → get_or gains i 0 ≤ max-gain)
+PairBounds pairs gains = (pairs ≤ max_pairs) × ((i : ℕ) → i < pairs → get_or gains i 0 ≤ max_gain)
 
 -- the pairs of an accepted answer are within these bounds
 abbrev pub CurveBounds : Curve.CurveAnswer → List ℕ → Type 0
-CurveBounds (Curve.TheVariants.Given start at-start pairs) gains = PairBounds pairs gains
+CurveBounds (Curve.TheVariants.Given start at_start pairs) gains = PairBounds pairs gains
 CurveBounds (Curve.TheVariants.Refused refusal) gains = Unit {0}
 
 -- the best list of the block in front of the slice
 pub data GivesBest (B : Block) (lent : List ℕ) (o : Outcome (List ℕ)) : Type 0 where
   best : (x : List ℕ) → SeriesParallel B
       → BestList.Best B x
-      → Gives (saving B x ∷ gate-count B ∷ []) (over x lent) o
+      → Gives (saving B x ∷ gate_count B ∷ []) (over x lent) o
       → GivesBest B lent o
 
 -- the lines of the best increases from 11 on, of a well-formed block, whatever kind of slice they go to: "not series-parallel", "late", or what is given
@@ -192,7 +192,7 @@ BestLines B lent = SizingLines B lent (GivesBest B lent)
 -- The best increases (demand 3).
 abbrev pub AnswersBest : List ℕ → List ℕ → Outcome (List ℕ) → Type 0
 AnswersBest file lent =
-    Judged file lent (λ (B : Block). Line lent 10 (Shorter lent (gate-count B)) (BestLines B lent))
+    Judged file lent (λ (B : Block). Line lent 10 (Shorter lent (gate_count B)) (BestLines B lent))
 
 -- the fewest ticks with which the block reaches the wanted saving
 pub data GivesTicks (B : Block) (wanted : ℕ) (o : Outcome (Unit {0})) : Type 0 where

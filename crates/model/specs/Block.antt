@@ -35,15 +35,15 @@ redated arrival deadline B =
     record { arrival = arrival; deadline = deadline; activity = B.activity; gates = B.gates; wires = B.wires }
 
 -- A gate that no number names: it takes no time and has no step.
-abbrev pub no-gate : Gate
-no-gate = record { delay = 0; activity = 0; steps = [] }
+abbrev pub no_gate : Gate
+no_gate = record { delay = 0; activity = 0; steps = [] }
 
-abbrev pub gate-count : Block → ℕ
-gate-count B = length B.gates
+abbrev pub gate_count : Block → ℕ
+gate_count B = length B.gates
 
 -- the gate of number g
 abbrev pub gate : Block → ℕ → Gate
-gate B g = get_or B.gates g no-gate
+gate B g = get_or B.gates g no_gate
 
 -- the gate at which every path begins
 abbrev pub first : Block → ℕ
@@ -51,7 +51,7 @@ first B = 0
 
 -- the gate at which every path ends
 abbrev pub last : Block → ℕ
-last B = gate-count B - 1
+last B = gate_count B - 1
 
 -- "the sum of the widths" of a gate: how far it can be slowed
 abbrev pub widths : List Step → ℕ

@@ -11,26 +11,26 @@ pub record Pair : Type 0 where
   pub gain : ℕ
 
 -- the gain of the first pair, 0 where there is none
-abbrev pub first-gain : List Pair → ℕ
-first-gain [] = 0
-first-gain (p ∷ ps) = p.gain
+abbrev pub first_gain : List Pair → ℕ
+first_gain [] = 0
+first_gain (p ∷ ps) = p.gain
 
 -- "pairs (width, gain), each width at least 1, of strictly falling gain above 0"
 abbrev pub Falling : List Pair → Type 0
 Falling [] = Unit {0}
-Falling (p ∷ ps) = (1 ≤ p.width) × (first-gain ps < p.gain) × Falling ps
+Falling (p ∷ ps) = (1 ≤ p.width) × (first_gain ps < p.gain) × Falling ps
 
 -- the ticks of all pairs: the whole curve
-abbrev pub all-ticks : List Pair → ℕ
-all-ticks = total (λ (p : Pair). p.width)
+abbrev pub all_ticks : List Pair → ℕ
+all_ticks = total (λ (p : Pair). p.width)
 
 -- What the first k ticks of a curve earn: they "are counted off the curve from its front; those beyond its end earn 0".
-unfoldable pub count-off : List Pair → ℕ → ℕ
-count-off [] k = 0
-count-off (p ∷ ps) k = min k p.width * p.gain + count-off ps (k - p.width)
+unfoldable pub count_off : List Pair → ℕ → ℕ
+count_off [] k = 0
+count_off (p ∷ ps) k = min k p.width * p.gain + count_off ps (k - p.width)
 
 -- The curve of a block: start, saving at start and pairs. "For every k, the saving at start plus the first k ticks' gains is the best saving if spare were k in place of the file's own."
-pub record IsCurve (B : Block) (start at-start : ℕ) (pairs : List Pair) : Type 0 where
+pub record IsCurve (B : Block) (start at_start : ℕ) (pairs : List Pair) : Type 0 where
   pub starts : IsStart B start
   pub falls : Falling pairs
-  pub best : (k : ℕ) → BestSaving B (start + k) (at-start + count-off pairs k)
+  pub best : (k : ℕ) → BestSaving B (start + k) (at_start + count_off pairs k)

@@ -1,11 +1,11 @@
 -- Lists of increases, within a time and in time (document 01, "Gains, paths, building up"; demand 2).
 use Rattle.std.specs.Prelude.{◌≡◌, List, ℕ, ◌+◌, ◌≤◌, ◌<◌, length, get_or, replicate}
-use Rattle.model.specs.Block.{Block, gate, gate-count, first, last, widths}
+use Rattle.model.specs.Block.{Block, gate, gate_count, first, last, widths}
 use Rattle.model.specs.Path.{Path, Longest}
 
 -- the list that slows none of n gates
-abbrev pub no-increase : ℕ → List ℕ
-no-increase n = replicate n 0
+abbrev pub no_increase : ℕ → List ℕ
+no_increase n = replicate n 0
 
 -- the delay of gate g as drawn
 abbrev pub drawn : Block → ℕ → ℕ
@@ -17,8 +17,8 @@ slowed B x g = (gate B g).delay + get_or x g 0
 
 -- x has an increase for each gate, "each from 0 to the sum of its gate's widths", and the time of every path under x is `ok`.
 pub record Sizing (B : Block) (ok : ℕ → Type 0) (x : List ℕ) : Type 0 where
-  pub one_each : length x ≡ gate-count B
-  pub within-widths : (g : ℕ) → g < gate-count B → get_or x g 0 ≤ widths (gate B g).steps
+  pub one_each : length x ≡ gate_count B
+  pub within_widths : (g : ℕ) → g < gate_count B → get_or x g 0 ≤ widths (gate B g).steps
   pub paths : (t : ℕ) → Path B.wires (slowed B x) (first B) (last B) t → ok t
 
 -- x is a list under which no path lasts more than T

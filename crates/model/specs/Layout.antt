@@ -2,29 +2,29 @@
 use Rattle.std.specs.Prelude.{◌≡◌, ◌≢◌, ℕ, zero, suc, ◌*◌, ◌/◌, ◌%◌, get_or}
 use mathlib.Core.List.{List, [], ◌∷◌, flat_map}
 use Rattle.lists.specs.Over.{over}
-use Rattle.model.specs.Block.{Block, gate-count}
+use Rattle.model.specs.Block.{Block, gate_count}
 use Rattle.model.specs.Gain.{saving}
 use Rattle.model.specs.Best.{Best}
 use Rattle.model.specs.Part.{SeriesParallel}
-use Rattle.model.specs.Field.{byte-values}
+use Rattle.model.specs.Field.{byte_values}
 use Rattle.model.specs.Answer.{Answer, accepted, refusal, Outcome, Line, Judged, Gives, Shorter, SizingLines}
 
 -- bytes of an increase
-abbrev pub increase-bytes : ℕ
-increase-bytes = 4
+abbrev pub increase_bytes : ℕ
+increase_bytes = 4
 
 -- a number of 32 bits as four bytes, the high byte first
 abbrev pub four_bytes : ℕ → List ℕ
 four_bytes w =
-    w / (byte-values * byte-values * byte-values)
-    ∷ w / (byte-values * byte-values) % byte-values
-    ∷ w / byte-values % byte-values
-    ∷ w % byte-values
+    w / (byte_values * byte_values * byte_values)
+    ∷ w / (byte_values * byte_values) % byte_values
+    ∷ w / byte_values % byte_values
+    ∷ w % byte_values
     ∷ []
 
 -- the increases of a list, one after another
-abbrev pub list-bytes : List ℕ → List ℕ
-list-bytes = flat_map four_bytes
+abbrev pub list_bytes : List ℕ → List ℕ
+list_bytes = flat_map four_bytes
 
 -- The numbers that a call hands back to C, as an answer. Number 0: accepted, with these values; else a refusal with its place.
 abbrev pub told : ℕ → ℕ → List ℕ → Answer
@@ -37,8 +37,8 @@ UnsaidZero zero place values = place ≡ 0
 UnsaidZero (suc k) place values = (i : ℕ) → get_or values i 0 ≡ 0
 
 -- the best increases: the saving and, in place of a place, how many were written
-abbrev pub layout-answer : ℕ → ℕ → ℕ → Answer
-layout-answer number place saved = told number place (saved ∷ place ∷ [])
+abbrev pub layout_answer : ℕ → ℕ → ℕ → Answer
+layout_answer number place saved = told number place (saved ∷ place ∷ [])
 
 -- a refusal saves nothing
 abbrev pub NoSavingRefused : ℕ → ℕ → Type 0
@@ -48,7 +48,7 @@ NoSavingRefused number saved = number ≢ 0 → saved ≡ 0
 pub data GivesLayout (B : Block) (lent : List ℕ) (o : Outcome (List ℕ)) : Type 0 where
   laid : (x : List ℕ) → SeriesParallel B
       → Best B x
-      → Gives (saving B x ∷ gate-count B ∷ []) (over (list-bytes x) lent) o
+      → Gives (saving B x ∷ gate_count B ∷ []) (over (list_bytes x) lent) o
       → GivesLayout B lent o
 
 -- The layout editor's call: the lines of the best increases, to a slice of bytes, four an increase.
@@ -56,4 +56,4 @@ abbrev pub AnswersLayout : List ℕ → List ℕ → Outcome (List ℕ) → Type
 AnswersLayout file lent =
     Judged file lent
     (λ (B : Block).
-    Line lent 10 (Shorter lent (increase-bytes * gate-count B)) (SizingLines B lent (GivesLayout B lent)))
+    Line lent 10 (Shorter lent (increase_bytes * gate_count B)) (SizingLines B lent (GivesLayout B lent)))

@@ -2,7 +2,7 @@
 -- `switching` is the number that the file gives for the switching of a net: of the input, and of a gate's output (Edition says what it is).
 use Rattle.std.specs.Prelude.{List, map, ℕ}
 use Rattle.model.specs.Block.{Step, Gate, Wire, Block}
-use Rattle.model.specs.Edition.{activity-of}
+use Rattle.model.specs.Edition.{activity_of}
 
 -- A gate field: drawn delay, the number for its output's switching, steps.
 pub record DrawnGate : Type 0 where
@@ -20,8 +20,8 @@ pub record Netlist : Type 0 where
   pub wires : List Wire
 
 -- the gate of a file of an edition, with its net's activity
-abbrev pub gate-of : ℕ → DrawnGate → Gate
-gate-of edition g = record { delay = g.delay; activity = activity-of edition g.switching; steps = g.steps }
+abbrev pub gate_of : ℕ → DrawnGate → Gate
+gate_of edition g = record { delay = g.delay; activity = activity_of edition g.switching; steps = g.steps }
 
 -- the block that the file describes
 abbrev pub block_of : Netlist → Block
@@ -29,7 +29,7 @@ block_of N =
     record {
       arrival = N.arrival;
       deadline = N.deadline;
-      activity = activity-of N.edition N.switching;
-      gates = map (gate-of N.edition) N.gates;
+      activity = activity_of N.edition N.switching;
+      gates = map (gate_of N.edition) N.gates;
       wires = N.wires;
     }

@@ -1,7 +1,7 @@
 -- Parts, and when a block is series-parallel (document 01, "Gains, paths, building up"; 001, section 2.1).
 -- 001's SP3 gives every fork and join a gate of its own; document 01's building rule overrules it and is wider: branches may share both of their ends with a plain wire beside them.
 use Rattle.std.specs.Prelude.{◌≡◌, ◌≢◌, ◌⊎◌, ◌↔◌, [], ℕ, ◌<◌}
-use Rattle.model.specs.Block.{Block, gate-count, first, last, Joined}
+use Rattle.model.specs.Block.{Block, gate_count, first, last, Joined}
 
 -- How a part is built up: one wire; two parts in series through a middle gate; two parts in parallel.
 pub data Shape : Type 0 where
@@ -39,9 +39,9 @@ Part a b (parallel P Q) =
 pub record Whole (B : Block) (P : Shape) : Type 0 where
   pub part : Part (first B) (last B) P
   pub wires : (x y : ℕ) → Joined B.wires x y ↔ HasWire P (first B) (last B) x y
-  pub gates : (g : ℕ) → g < gate-count B → HasGate P (first B) (last B) g
+  pub gates : (g : ℕ) → g < gate_count B → HasGate P (first B) (last B) g
 
 -- "The block is series-parallel if all its wires and gates form a part from 0 to n − 1, or if it has one gate and no wire."
 pub data SeriesParallel (B : Block) : Type 0 where
-  lone : gate-count B ≡ 1 → B.wires ≡ [] → SeriesParallel B
+  lone : gate_count B ≡ 1 → B.wires ≡ [] → SeriesParallel B
   built : (P : Shape) → Whole B P → SeriesParallel B

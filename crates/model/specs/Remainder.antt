@@ -3,15 +3,15 @@
 use Rattle.std.specs.Prelude.{◌≡◌, ◌≢◌, cond, ◌&&◌, ◌||◌, ℕ, ◌+◌, ◌-◌, ◌≤◌, ◌<◌, eqb}
 use mathlib.Core.List.{List, [], ◌∷◌, Memᴰ}
 use Rattle.lists.specs.Sum.{total}
-use Rattle.model.specs.Block.{Wire, Block, gate-count, first, last}
+use Rattle.model.specs.Block.{Wire, Block, gate_count, first, last}
 
 -- 1 from a to b, 0 between any other two gates
 abbrev pub one_at : ℕ → ℕ → ℕ → ℕ → ℕ
 one_at a b x y = cond (eqb x a && eqb y b) 1 0
 
 -- how many wires of the list lead from a to b
-unfoldable pub wires-between : List Wire → ℕ → ℕ → ℕ
-wires-between ws a b = total (λ (w : Wire). one_at a b w.source w.target) ws
+unfoldable pub wires_between : List Wire → ℕ → ℕ → ℕ
+wires_between ws a b = total (λ (w : Wire). one_at a b w.source w.target) ws
 
 -- A moment of the reduction: how many wires lead from each gate to each other, and the gates taken away so far.
 pub record Moment : Type 0 where
@@ -20,7 +20,7 @@ pub record Moment : Type 0 where
 
 -- at first every wire of the block stands, and no gate is taken away
 abbrev pub beginning : Block → Moment
-beginning B = record { wires = wires-between B.wires; taken = [] }
+beginning B = record { wires = wires_between B.wires; taken = [] }
 
 -- the counts f come to one in all, which is at a
 pub record OneOf (f : ℕ → ℕ) (a : ℕ) : Type 0 where
@@ -61,11 +61,11 @@ pub record ReducedTo (B : Block) (M : Moment) : Type 0 where
   pub reached : Moves (beginning B) M
   pub ended : (N : Moment) → ¬ (Move M N)
 
--- Gate g is left at an end of the reduction, "other than 0 and n − 1". (At one end as at any other: `same-gates-left` of parts.)
+-- Gate g is left at an end of the reduction, "other than 0 and n − 1". (At one end as at any other: `same_gates_left` of parts.)
 pub record Remains (B : Block) (g : ℕ) : Type 0 where
   pub end : Moment
   pub reduced : ReducedTo B end
-  pub below : g < gate-count B
+  pub below : g < gate_count B
   pub left : ¬ (Memᴰ g end.taken)
   pub not_first : g ≢ first B
   pub not_last : g ≢ last B

@@ -7,7 +7,7 @@ use native.Mathlib.Nat.{le_refl, mul-le-mul_left, zero-mul}
 use native.Mathlib.Omega.{arith}
 use Rattle.optimum.specs.Tree.{Tree, St, zeros, longest, worth, next, Run, Raised}
 use Rattle.optimum.proofs.Duality.{weak}
-use Rattle.optimum.proofs.Raise.{Good, Ran, run-good, raised}
+use Rattle.optimum.proofs.Raise.{Good, Ran, run_good, raised}
 
 module _ (d : ℕ → ℕ) (v : ℕ → ℕ → ℕ) (falls : (g k : ℕ) → v g (suc k) ≤ v g k) where
   -- For a loop: a good part is worth the most of all lists that last no longer, and of all lists where nothing is left to gain.
@@ -17,7 +17,7 @@ module _ (d : ℕ → ℕ) (v : ℕ → ℕ → ℕ) (falls : (g k : ℕ) → v 
 
   module _ (t : Tree) (k : ℕ) (r s : St t) (start : Raised d v t r) (run : Run v t k r s) where
     ran : Ran d v falls t k r s
-    ran = run-good d v falls t k r s ((raised d v falls t r start).priced _ (le_refl _)) run
+    ran = run_good d v falls t k r s ((raised d v falls t r start).priced _ (le_refl _)) run
 
     -- it lasts exactly k ticks longer than no increase, unless nothing is left to gain
     pub lasts : (longest d t s ≡ longest d t (zeros t) + k) ⊎ (next v t s ≡ 0)
@@ -28,8 +28,8 @@ module _ (d : ℕ → ℕ) (v : ℕ → ℕ → ℕ) (falls : (g k : ℕ) → v 
         go (inr z) = inr z
 
     -- it never lasts longer than that
-    pub lasts-at-most : longest d t s ≤ longest d t (zeros t) + k
-    lasts-at-most = omega (arith, ran.at_most, (raised d v falls t r start).length)
+    pub lasts_at_most : longest d t s ≤ longest d t (zeros t) + k
+    lasts_at_most = omega (arith, ran.at_most, (raised d v falls t r start).length)
 
     pub best : (y : St t) → longest d t y ≤ longest d t (zeros t) + k → worth v t y ≤ worth v t s
     best y h = finish t s y ran.good (go lasts)

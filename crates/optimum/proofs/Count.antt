@@ -9,28 +9,28 @@ use native.Mathlib.Omega.{arith}
 use borrow.Author.Tests.{eq-eqb, ne_eqb}
 use Rattle.optimum.specs.Tree.{series, parallel, Tree, is, count}
 
-pub is-self : (m : ℕ) → is m m ≡ 1
+pub is_self : (m : ℕ) → is m m ≡ 1
 unfolding is
-is-self m = rw (eq-eqb m m refl) refl
+is_self m = rw (eq-eqb m m refl) refl
 
-pub is-other : (m g : ℕ) → g ≢ m → is m g ≡ 0
+pub is_other : (m g : ℕ) → g ≢ m → is m g ≡ 0
 unfolding is
-is-other m g d = rw (ne_eqb g m d) refl
+is_other m g d = rw (ne_eqb g m d) refl
 
 -- a gate of a series part is one of its left part, its own gate or one of its right part
-pub in-series : (P : Tree) (m : ℕ) (Q : Tree) (g : ℕ) (C : Type 0) → 0 < count (series P m Q) g → (0 < count P g → C) → (g ≡ m → C)
+pub in_series : (P : Tree) (m : ℕ) (Q : Tree) (g : ℕ) (C : Type 0) → 0 < count (series P m Q) g → (0 < count P g → C) → (g ≡ m → C)
     → (0 < count Q g → C) → C
-in-series P m Q g C l on-left on-gate on-right = go (ℕ_discrete g m) (eq-zero-or-pos (count P g))
+in_series P m Q g C l on_left on_gate on_right = go (ℕ_discrete g m) (eq-zero-or-pos (count P g))
   where
     go : Dec (g ≡ m) → (count P g ≡ 0) ⊎ (0 < count P g) → C
-    go (yes e) _ = on-gate e
-    go (no d) (inl z) = on-right (omega (arith, is-other m g d))
-    go (no d) (inr p) = on-left p
+    go (yes e) _ = on_gate e
+    go (no d) (inl z) = on_right (omega (arith, is_other m g d))
+    go (no d) (inr p) = on_left p
 
 -- a gate of a parallel part is one of a side
-pub in-parallel : (P Q : Tree) (g : ℕ) (C : Type 0) → 0 < count (parallel P Q) g → (0 < count P g → C) → (0 < count Q g → C) → C
-in-parallel P Q g C l on-left on-right = go (eq-zero-or-pos (count P g))
+pub in_parallel : (P Q : Tree) (g : ℕ) (C : Type 0) → 0 < count (parallel P Q) g → (0 < count P g → C) → (0 < count Q g → C) → C
+in_parallel P Q g C l on_left on_right = go (eq-zero-or-pos (count P g))
   where
     go : (count P g ≡ 0) ⊎ (0 < count P g) → C
-    go (inl z) = on-right (omega arith)
-    go (inr p) = on-left p
+    go (inl z) = on_right (omega arith)
+    go (inr p) = on_left p

@@ -12,7 +12,7 @@ use Rattle.lists.specs.Sum.{sum}
 use Rattle.lists.proofs.Sum.{sum_same}
 use Rattle.model.specs.Ties.{Before, behind, here}
 use Rattle.optimum.specs.Head.{rank}
-use Rattle.optimum.proofs.Sums.{sum-front, sum-mul}
+use Rattle.optimum.proofs.Sums.{sum_front, sum_mul}
 
 module _ (B : ℕ) where
   -- the number that the list writes
@@ -21,15 +21,15 @@ module _ (B : ℕ) where
 
   -- n digits below B
   pub record Digits (n : ℕ) (x : List ℕ) : Type 0 where
-    pub length-is : length x ≡ n
+    pub length_is : length x ≡ n
     pub below : (g : ℕ) → g < n → get_or x g 0 < B
 
-  number-cons : (n a : ℕ) (x : List ℕ) → number (suc n) (a ∷ x) ≡ a + number n x * B
+  number_cons : (n a : ℕ) (x : List ℕ) → number (suc n) (a ∷ x) ≡ a + number n x * B
   unfolding number
-  number-cons n a x =
+  number_cons n a x =
       let first : rank (suc n) 0 ≡ 0 = omega arith in
       let digit : a * B ^ rank (suc n) 0 ≡ a = ap (λ (r : ℕ). a * B ^ r) first ∙ rw (pow-zero, mul-one) refl in
-      omega (arith, sum-front n (λ (g : ℕ). get_or (a ∷ x) g 0 * B ^ rank (suc n) g), digit, others)
+      omega (arith, sum_front n (λ (g : ℕ). get_or (a ∷ x) g 0 * B ^ rank (suc n) g), digit, others)
     where
       further : (g : ℕ) → get_or x g 0 * B ^ rank (suc n) (suc g) ≡ get_or x g 0 * B ^ rank n g * B
       further g =
@@ -40,33 +40,33 @@ module _ (B : ℕ) where
       others : sum n (λ (g : ℕ). get_or x g 0 * B ^ rank (suc n) (suc g)) ≡ sum n (λ (g : ℕ). get_or x g 0 * B ^ rank n g) * B
       others =
           sum_same n _ (λ (g : ℕ). get_or x g 0 * B ^ rank n g * B) (λ g l. further g)
-          ∙ sum-mul n B (λ (g : ℕ). get_or x g 0 * B ^ rank n g)
+          ∙ sum_mul n B (λ (g : ℕ). get_or x g 0 * B ^ rank n g)
 
-  digits-tail : (n a : ℕ) (x : List ℕ) → Digits (suc n) (a ∷ x) → Digits n x
-  digits-tail n a x d = record { length-is = suc_inj d.length-is; below = λ g l. d.below (suc g) (omega arith) }
+  digits_tail : (n a : ℕ) (x : List ℕ) → Digits (suc n) (a ∷ x) → Digits n x
+  digits_tail n a x d = record { length_is = suc_inj d.length_is; below = λ g l. d.below (suc g) (omega arith) }
 
-  pub number-below : (n : ℕ) (x : List ℕ) → Digits n x → number n x < B ^ n
+  pub number_below : (n : ℕ) (x : List ℕ) → Digits n x → number n x < B ^ n
   unfolding number sum
-  number-below zero x d = rw pow-zero (le_refl 1)
-  number-below (suc n) [] d = absurd (omega (arith, d.length-is))
-  number-below (suc n) (a ∷ x) d =
-      rw (number-cons n a x, pow-succ' B n, mul_comm B (B ^ n)) (omega (
+  number_below zero x d = rw pow-zero (le_refl 1)
+  number_below (suc n) [] d = absurd (omega (arith, d.length_is))
+  number_below (suc n) (a ∷ x) d =
+      rw (number_cons n a x, pow-succ' B n, mul_comm B (B ^ n)) (omega (
         arith,
         d.below 0 (omega arith),
-        simp suc-mul at (mul-le-mul_right B (number-below n x (digits-tail n a x d))),
+        simp suc-mul at (mul-le-mul_right B (number_below n x (digits_tail n a x d))),
       ))
 
-  pub smaller-is-before : (n : ℕ) (x y : List ℕ) → Digits n x → Digits n y → number n x ≤ number n y → (x ≡ y) ⊎ Before x y
-  smaller-is-before zero [] [] dx dy l = inl refl
-  smaller-is-before zero [] (b ∷ y) dx dy l = absurd (omega (arith, dy.length-is))
-  smaller-is-before zero (a ∷ x) y dx dy l = absurd (omega (arith, dx.length-is))
-  smaller-is-before (suc n) [] y dx dy l = absurd (omega (arith, dx.length-is))
-  smaller-is-before (suc n) (a ∷ x) [] dx dy l = absurd (omega (arith, dy.length-is))
-  smaller-is-before (suc n) (a ∷ x) (b ∷ y) dx dy l =
-      go (dec_le (number n x) (number n y)) (smaller-is-before n x y (digits-tail n a x dx) (digits-tail n b y dy))
+  pub smaller_is_before : (n : ℕ) (x y : List ℕ) → Digits n x → Digits n y → number n x ≤ number n y → (x ≡ y) ⊎ Before x y
+  smaller_is_before zero [] [] dx dy l = inl refl
+  smaller_is_before zero [] (b ∷ y) dx dy l = absurd (omega (arith, dy.length_is))
+  smaller_is_before zero (a ∷ x) y dx dy l = absurd (omega (arith, dx.length_is))
+  smaller_is_before (suc n) [] y dx dy l = absurd (omega (arith, dx.length_is))
+  smaller_is_before (suc n) (a ∷ x) [] dx dy l = absurd (omega (arith, dy.length_is))
+  smaller_is_before (suc n) (a ∷ x) (b ∷ y) dx dy l =
+      go (dec_le (number n x) (number n y)) (smaller_is_before n x y (digits_tail n a x dx) (digits_tail n b y dy))
     where
       l' : a + number n x * B ≤ b + number n y * B
-      l' = rw (number-cons n a x, number-cons n b y) at l
+      l' = rw (number_cons n a x, number_cons n b y) at l
 
       last : x ≡ y → (a ≡ b) ⊎ (a < b) → (a ∷ x ≡ b ∷ y) ⊎ Before (a ∷ x) (b ∷ y)
       last e (inl q) = inl (rw (q, e))

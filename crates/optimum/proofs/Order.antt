@@ -17,16 +17,16 @@ Ahead a b = (b.gain < a.gain) ⊎ ((a.gain ≡ b.gain) × (a.rank < b.rank))
 abbrev pub Leads : Head → Head → Type 0
 Leads a b = (b.gain < a.gain) ⊎ ((a.gain ≡ b.gain) × (a.rank ≤ b.rank))
 
-pub ahead-leads : (a b : Head) → Ahead a b → Leads a b
-ahead-leads a b (inl g) = inl g
-ahead-leads a b (inr (e, r)) = inr (e, omega arith)
+pub ahead_leads : (a b : Head) → Ahead a b → Leads a b
+ahead_leads a b (inl g) = inl g
+ahead_leads a b (inr (e, r)) = inr (e, omega arith)
 
 -- ahead of what leads a head is ahead of that head
-ahead-over : (a b c : Head) → Ahead a b → Leads b c → Ahead a c
-ahead-over a b c (inl g) (inl g') = inl (omega arith)
-ahead-over a b c (inl g) (inr (e, r)) = inl (omega arith)
-ahead-over a b c (inr (e, r)) (inl g) = inl (omega arith)
-ahead-over a b c (inr (e, r)) (inr (e', r')) = inr (omega arith, omega arith)
+ahead_over : (a b c : Head) → Ahead a b → Leads b c → Ahead a c
+ahead_over a b c (inl g) (inl g') = inl (omega arith)
+ahead_over a b c (inl g) (inr (e, r)) = inl (omega arith)
+ahead_over a b c (inr (e, r)) (inl g) = inl (omega arith)
+ahead_over a b c (inr (e, r)) (inr (e', r')) = inr (omega arith, omega arith)
 
 -- what the answer of `leads` says
 data Answer (a b : Head) : Bool → Type 0 where
@@ -37,12 +37,12 @@ answer : (a b : Head) → Answer a b (leads a b)
 unfolding leads
 answer a b = greater (ltb b.gain a.gain) refl
   where
-    smaller-rank : (t : Bool) → ltb a.rank b.rank ≡ t → a.gain ≡ b.gain → Answer a b t
-    smaller-rank true e g = ahead (inr (g, ltb-true _ _ e))
-    smaller-rank false e g = behind (inr (omega arith, ltb-false _ _ e))
+    smaller_rank : (t : Bool) → ltb a.rank b.rank ≡ t → a.gain ≡ b.gain → Answer a b t
+    smaller_rank true e g = ahead (inr (g, ltb-true _ _ e))
+    smaller_rank false e g = behind (inr (omega arith, ltb-false _ _ e))
 
     equal : (t : Bool) → eqb a.gain b.gain ≡ t → a.gain ≤ b.gain → Answer a b (cond t (ltb a.rank b.rank) false)
-    equal true e g = smaller-rank _ refl (eqb-true _ _ e)
+    equal true e g = smaller_rank _ refl (eqb-true _ _ e)
     equal false e g = behind (inl (omega (arith, eqb-false a.gain b.gain e)))
 
     greater : (t : Bool) → ltb b.gain a.gain ≡ t → Answer a b (cond t true (cond (eqb a.gain b.gain) (ltb a.rank b.rank) false))
@@ -53,38 +53,38 @@ answer a b = greater (ltb b.gain a.gain) refl
 pub by_turn : (a b c : Head) (C : Item → Type 0) → (Leads a b → Leads a c → C left) → (Ahead b a → Leads b c → C gate)
     → (Ahead c a → Ahead c b → C right) → C (turn a b c)
 unfolding turn
-by_turn a b c C on-left on-gate on-right = go (leads b a) (leads c b) (leads c a) (answer b a) (answer c b) (answer c a)
+by_turn a b c C on_left on_gate on_right = go (leads b a) (leads c b) (leads c a) (answer b a) (answer c b) (answer c a)
   where
     go : (p q r : Bool) → Answer b a p → Answer c b q → Answer c a r → C (cond p (cond q right gate) (cond r right left))
-    go true true r (ahead ba) (ahead cb) _ = on-right (ahead-over c b a cb (ahead-leads b a ba)) cb
-    go true false r (ahead ba) (behind cb) _ = on-gate ba cb
-    go false q true (behind ba) _ (ahead ca) = on-right ca (ahead-over c a b ca ba)
-    go false q false (behind ba) _ (behind ca) = on-left ba ca
+    go true true r (ahead ba) (ahead cb) _ = on_right (ahead_over c b a cb (ahead_leads b a ba)) cb
+    go true false r (ahead ba) (behind cb) _ = on_gate ba cb
+    go false q true (behind ba) _ (ahead ca) = on_right ca (ahead_over c a b ca ba)
+    go false q false (behind ba) _ (behind ca) = on_left ba ca
 
 -- the two heads side by side where both sides have one
 abbrev pub both : Head → Head → Head
 both a b = record { width = min a.width b.width; gain = a.gain + b.gain; rank = max a.rank b.rank }
 
 -- A statement about two heads side by side holds if it holds for each case of sides that have one.
-pub by-sides : (a b : Head) (C : Head → Type 0) → (a.gain ≡ 0 → C b) → (0 < a.gain → b.gain ≡ 0 → C a)
+pub by_sides : (a b : Head) (C : Head → Type 0) → (a.gain ≡ 0 → C b) → (0 < a.gain → b.gain ≡ 0 → C a)
     → (0 < a.gain → 0 < b.gain → C (both a b)) → C (beside a b)
 unfolding beside
-by-sides a b C on-right on-left on_both = go (eqb a.gain 0) (eqb b.gain 0) refl refl
+by_sides a b C on_right on_left on_both = go (eqb a.gain 0) (eqb b.gain 0) refl refl
   where
     go : (p q : Bool) → eqb a.gain 0 ≡ p → eqb b.gain 0 ≡ q → C (cond p b (cond q a (both a b)))
-    go true q ea eb = on-right (eqb-true _ _ ea)
-    go false true ea eb = on-left (omega (arith, eqb-false a.gain 0 ea)) (eqb-true _ _ eb)
+    go true q ea eb = on_right (eqb-true _ _ ea)
+    go false true ea eb = on_left (omega (arith, eqb-false a.gain 0 ea)) (eqb-true _ _ eb)
     go false false ea eb = on_both (omega (arith, eqb-false a.gain 0 ea)) (omega (arith, eqb-false b.gain 0 eb))
 
 -- side by side, by who has a head
-pub beside-right : (a b : Head) → a.gain ≡ 0 → beside a b ≡ b
+pub beside_right : (a b : Head) → a.gain ≡ 0 → beside a b ≡ b
 unfolding beside
-beside-right a b z = rw (eq-eqb _ _ z) refl
+beside_right a b z = rw (eq-eqb _ _ z) refl
 
-pub beside-left : (a b : Head) → 0 < a.gain → b.gain ≡ 0 → beside a b ≡ a
+pub beside_left : (a b : Head) → 0 < a.gain → b.gain ≡ 0 → beside a b ≡ a
 unfolding beside
-beside-left a b p z = rw (ne_eqb a.gain 0 (λ e. omega arith), eq-eqb _ _ z) refl
+beside_left a b p z = rw (ne_eqb a.gain 0 (λ e. omega arith), eq-eqb _ _ z) refl
 
-pub beside-both : (a b : Head) → 0 < a.gain → 0 < b.gain → beside a b ≡ both a b
+pub beside_both : (a b : Head) → 0 < a.gain → 0 < b.gain → beside a b ≡ both a b
 unfolding beside
-beside-both a b p q = rw (ne_eqb a.gain 0 (λ e. omega arith), ne_eqb b.gain 0 (λ e. omega arith)) refl
+beside_both a b p q = rw (ne_eqb a.gain 0 (λ e. omega arith), ne_eqb b.gain 0 (λ e. omega arith)) refl

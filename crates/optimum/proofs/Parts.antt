@@ -11,7 +11,7 @@ use Rattle.model.specs.Block.{Wire}
 use Rattle.model.specs.Part.{Shape, wire, series, parallel, Inside, HasGate, HasWire, Part}
 use Rattle.optimum.specs.Tree.{Tree, is, count, Once}
 use Rattle.optimum.specs.BlockTree.{tree_of}
-use Rattle.optimum.proofs.Count.{is-self, is-other, in-series, in-parallel}
+use Rattle.optimum.proofs.Count.{is_self, is_other, in_series, in_parallel}
 
 -- the two ends of a part are two gates, and not inside
 pub record Ends (P : Shape) (a b : ℕ) : Type 0 where
@@ -54,54 +54,54 @@ or_else f (inl a) = inl a
 or_else f (inr c) = inr (f c)
 
 -- a wire of a part leads from its first gate or from one inside
-pub source-gate : (P : Shape) (a b u v : ℕ) → HasWire P a b u v → (u ≡ a) ⊎ Inside P u
-source-gate wire a b u v (e, k) = inl e
-source-gate (series P m Q) a b u v (inl w) = or_else (λ i. inl i) (source-gate P a m u v w)
-source-gate (series P m Q) a b u v (inr w) = inr (inr (source-gate Q m b u v w))
-source-gate (parallel P Q) a b u v (inl w) = or_else (λ i. inl i) (source-gate P a b u v w)
-source-gate (parallel P Q) a b u v (inr w) = or_else (λ i. inr i) (source-gate Q a b u v w)
+pub source_gate : (P : Shape) (a b u v : ℕ) → HasWire P a b u v → (u ≡ a) ⊎ Inside P u
+source_gate wire a b u v (e, k) = inl e
+source_gate (series P m Q) a b u v (inl w) = or_else (λ i. inl i) (source_gate P a m u v w)
+source_gate (series P m Q) a b u v (inr w) = inr (inr (source_gate Q m b u v w))
+source_gate (parallel P Q) a b u v (inl w) = or_else (λ i. inl i) (source_gate P a b u v w)
+source_gate (parallel P Q) a b u v (inr w) = or_else (λ i. inr i) (source_gate Q a b u v w)
 
 -- and leads to its last gate or to one inside
-pub target-gate : (P : Shape) (a b u v : ℕ) → HasWire P a b u v → (v ≡ b) ⊎ Inside P v
-target-gate wire a b u v (e, k) = inl k
-target-gate (series P m Q) a b u v (inl w) = inr (at-middle (target-gate P a m u v w))
+pub target_gate : (P : Shape) (a b u v : ℕ) → HasWire P a b u v → (v ≡ b) ⊎ Inside P v
+target_gate wire a b u v (e, k) = inl k
+target_gate (series P m Q) a b u v (inl w) = inr (at_middle (target_gate P a m u v w))
   where
-    at-middle : (v ≡ m) ⊎ Inside P v → Inside P v ⊎ (v ≡ m) ⊎ Inside Q v
-    at-middle (inl e) = inr (inl e)
-    at-middle (inr i) = inl i
-target-gate (series P m Q) a b u v (inr w) = or_else (λ i. inr (inr i)) (target-gate Q m b u v w)
-target-gate (parallel P Q) a b u v (inl w) = or_else (λ i. inl i) (target-gate P a b u v w)
-target-gate (parallel P Q) a b u v (inr w) = or_else (λ i. inr i) (target-gate Q a b u v w)
+    at_middle : (v ≡ m) ⊎ Inside P v → Inside P v ⊎ (v ≡ m) ⊎ Inside Q v
+    at_middle (inl e) = inr (inl e)
+    at_middle (inr i) = inl i
+target_gate (series P m Q) a b u v (inr w) = or_else (λ i. inr (inr i)) (target_gate Q m b u v w)
+target_gate (parallel P Q) a b u v (inl w) = or_else (λ i. inl i) (target_gate P a b u v w)
+target_gate (parallel P Q) a b u v (inr w) = or_else (λ i. inr i) (target_gate Q a b u v w)
 
 -- no wire of a part leads from its last gate
-pub none-from-last : (P : Shape) (a b v : ℕ) → Ends P a b → HasWire P a b b v → ⊥
-none-from-last P a b v e w = go (source-gate P a b b v w)
+pub none_from_last : (P : Shape) (a b v : ℕ) → Ends P a b → HasWire P a b b v → ⊥
+none_from_last P a b v e w = go (source_gate P a b b v w)
   where
     go : (b ≡ a) ⊎ Inside P b → ⊥
     go (inl s) = e.apart (sym s)
     go (inr i) = e.not_last i
 
 -- no wire of a part leads to its first gate
-pub none-to-first : (P : Shape) (a b u : ℕ) → Ends P a b → HasWire P a b u a → ⊥
-none-to-first P a b u e w = go (target-gate P a b u a w)
+pub none_to_first : (P : Shape) (a b u : ℕ) → Ends P a b → HasWire P a b u a → ⊥
+none_to_first P a b u e w = go (target_gate P a b u a w)
   where
     go : (a ≡ b) ⊎ Inside P a → ⊥
     go (inl s) = e.apart s
     go (inr i) = e.not_first i
 
 -- a wire of a part leads to its last gate, and one to each gate inside
-wire-to-last : (P : Shape) (a b : ℕ) → (u : ℕ) × HasWire P a b u b
-wire-to-last wire a b = (a, (refl, refl))
-wire-to-last (series P m Q) a b = let w = wire-to-last Q m b in (w.0, inr w.1)
-wire-to-last (parallel P Q) a b = let w = wire-to-last P a b in (w.0, inl w.1)
+wire_to_last : (P : Shape) (a b : ℕ) → (u : ℕ) × HasWire P a b u b
+wire_to_last wire a b = (a, (refl, refl))
+wire_to_last (series P m Q) a b = let w = wire_to_last Q m b in (w.0, inr w.1)
+wire_to_last (parallel P Q) a b = let w = wire_to_last P a b in (w.0, inl w.1)
 
-pub wire-to : (P : Shape) (a b g : ℕ) → Inside P g → (u : ℕ) × HasWire P a b u g
-wire-to wire a b g i = absurd i
-wire-to (series P m Q) a b g (inl i) = let w = wire-to P a m g i in (w.0, inl w.1)
-wire-to (series P m Q) a b g (inr (inl e)) = let w = wire-to-last P a m in (w.0, inl (rw e w.1))
-wire-to (series P m Q) a b g (inr (inr i)) = let w = wire-to Q m b g i in (w.0, inr w.1)
-wire-to (parallel P Q) a b g (inl i) = let w = wire-to P a b g i in (w.0, inl w.1)
-wire-to (parallel P Q) a b g (inr i) = let w = wire-to Q a b g i in (w.0, inr w.1)
+pub wire_to : (P : Shape) (a b g : ℕ) → Inside P g → (u : ℕ) × HasWire P a b u g
+wire_to wire a b g i = absurd i
+wire_to (series P m Q) a b g (inl i) = let w = wire_to P a m g i in (w.0, inl w.1)
+wire_to (series P m Q) a b g (inr (inl e)) = let w = wire_to_last P a m in (w.0, inl (rw e w.1))
+wire_to (series P m Q) a b g (inr (inr i)) = let w = wire_to Q m b g i in (w.0, inr w.1)
+wire_to (parallel P Q) a b g (inl i) = let w = wire_to P a b g i in (w.0, inl w.1)
+wire_to (parallel P Q) a b g (inr i) = let w = wire_to Q a b g i in (w.0, inr w.1)
 
 -- The parts of a whole, told by where its wires are. `E u v` says that there is a wire from u to v.
 module _ (E : ℕ → ℕ → Type 0) where
@@ -110,9 +110,9 @@ module _ (E : ℕ → ℕ → Type 0) where
   Closed P a b = (u v : ℕ) → Inside P u ⊎ Inside P v → E u v → HasWire P a b u v
 
   -- where a part and another share no gate inside the part, the wires at gates inside are not the other's
-  own-wires : (P Q : Shape) (a b c d : ℕ) → ((g : ℕ) → Inside P g → HasGate Q c d g → ⊥)
+  own_wires : (P Q : Shape) (a b c d : ℕ) → ((g : ℕ) → Inside P g → HasGate Q c d g → ⊥)
       → ((u v : ℕ) → Inside P u ⊎ Inside P v → E u v → HasWire P a b u v ⊎ HasWire Q c d u v) → Closed P a b
-  own-wires P Q a b c d alone wires u v i e = from i (wires u v i e)
+  own_wires P Q a b c d alone wires u v i e = from i (wires u v i e)
     where
       source : (u ≡ c) ⊎ Inside Q u → HasGate Q c d u
       source (inl s) = inl s
@@ -124,8 +124,8 @@ module _ (E : ℕ → ℕ → Type 0) where
 
       from : Inside P u ⊎ Inside P v → HasWire P a b u v ⊎ HasWire Q c d u v → HasWire P a b u v
       from i (inl h) = h
-      from (inl i) (inr h) = absurd (alone u i (source (source-gate Q c d u v h)))
-      from (inr i) (inr h) = absurd (alone v i (target (target-gate Q c d u v h)))
+      from (inl i) (inr h) = absurd (alone u i (source (source_gate Q c d u v h)))
+      from (inr i) (inr h) = absurd (alone v i (target (target_gate Q c d u v h)))
 
   -- which side of a sum a gate is on
   widen : {A C D F : Type 0} → (A → D) → (C → F) → A ⊎ C → D ⊎ F
@@ -136,85 +136,85 @@ module _ (E : ℕ → ℕ → Type 0) where
   other_way (inl a) = inr a
   other_way (inr c) = inl c
 
-  pub closed-left : (P : Shape) (m : ℕ) (Q : Shape) (a b : ℕ) → Part a b (series P m Q) → Closed (series P m Q) a b → Closed P a m
-  closed-left P m Q a b (p, q, share) closed =
-      own-wires P Q a m m b
+  pub closed_left : (P : Shape) (m : ℕ) (Q : Shape) (a b : ℕ) → Part a b (series P m Q) → Closed (series P m Q) a b → Closed P a m
+  closed_left P m Q a b (p, q, share) closed =
+      own_wires P Q a m m b
       (λ g i h. (ends P a m p).not_last (rw (share g (inr (inr i)) h) at i))
       (λ u v i. closed u v (widen (λ j. inl j) (λ j. inl j) i))
 
-  pub closed-right : (P : Shape) (m : ℕ) (Q : Shape) (a b : ℕ) → Part a b (series P m Q) → Closed (series P m Q) a b → Closed Q m b
-  closed-right P m Q a b (p, q, share) closed =
-      own-wires Q P m b a m
+  pub closed_right : (P : Shape) (m : ℕ) (Q : Shape) (a b : ℕ) → Part a b (series P m Q) → Closed (series P m Q) a b → Closed Q m b
+  closed_right P m Q a b (p, q, share) closed =
+      own_wires Q P m b a m
       (λ g i h. (ends Q m b q).not_first (rw (share g h (inr (inr i))) at i))
       (λ u v i e. other_way (closed u v (widen (λ j. inr (inr j)) (λ j. inr (inr j)) i) e))
 
   -- an end of a side is not inside it
-  at-end : (P : Shape) (a b g : ℕ) → Ends P a b → Inside P g → (g ≡ a) ⊎ (g ≡ b) → ⊥
-  at-end P a b g e i (inl s) = e.not_first (rw s at i)
-  at-end P a b g e i (inr s) = e.not_last (rw s at i)
+  at_end : (P : Shape) (a b g : ℕ) → Ends P a b → Inside P g → (g ≡ a) ⊎ (g ≡ b) → ⊥
+  at_end P a b g e i (inl s) = e.not_first (rw s at i)
+  at_end P a b g e i (inr s) = e.not_last (rw s at i)
 
-  pub closed-one : (P Q : Shape) (a b : ℕ) → Part a b (parallel P Q) → Closed (parallel P Q) a b → Closed P a b
-  closed-one P Q a b (p, q, share, _) closed =
-      own-wires P Q a b a b
-      (λ g i h. at-end P a b g (ends P a b p) i (share g (inr (inr i)) h))
+  pub closed_one : (P Q : Shape) (a b : ℕ) → Part a b (parallel P Q) → Closed (parallel P Q) a b → Closed P a b
+  closed_one P Q a b (p, q, share, _) closed =
+      own_wires P Q a b a b
+      (λ g i h. at_end P a b g (ends P a b p) i (share g (inr (inr i)) h))
       (λ u v i. closed u v (widen (λ j. inl j) (λ j. inl j) i))
 
-  pub closed-other : (P Q : Shape) (a b : ℕ) → Part a b (parallel P Q) → Closed (parallel P Q) a b → Closed Q a b
-  closed-other P Q a b (p, q, share, _) closed =
-      own-wires Q P a b a b
-      (λ g i h. at-end Q a b g (ends Q a b q) i (share g h (inr (inr i))))
+  pub closed_other : (P Q : Shape) (a b : ℕ) → Part a b (parallel P Q) → Closed (parallel P Q) a b → Closed Q a b
+  closed_other P Q a b (p, q, share, _) closed =
+      own_wires Q P a b a b
+      (λ g i h. at_end Q a b g (ends Q a b q) i (share g h (inr (inr i))))
       (λ u v i e. other_way (closed u v (widen (λ j. inr j) (λ j. inr j) i) e))
 
 -- numbers up to 1 of which not both are 1
 exclusive : (p q : ℕ) → p ≤ 1 → q ≤ 1 → (0 < p → 0 < q → ⊥) → p + q ≤ 1
-exclusive p q hp hq not-both = go (eq-zero-or-pos p) (eq-zero-or-pos q)
+exclusive p q hp hq not_both = go (eq-zero-or-pos p) (eq-zero-or-pos q)
   where
     go : (p ≡ 0) ⊎ (0 < p) → (q ≡ 0) ⊎ (0 < q) → p + q ≤ 1
     go (inl z) _ = omega arith
     go (inr l) (inl z) = omega arith
-    go (inr l) (inr l') = absurd (not-both l l')
+    go (inr l) (inr l') = absurd (not_both l l')
 
 -- a series part has each gate once where its parts have, share none, and do not have its own
-pub once-series : (T : Tree) (m : ℕ) (U : Tree) → Once T → Once U → ((g : ℕ) → 0 < count T g → 0 < count U g → ⊥) → ¬ (0 < count T m)
+pub once_series : (T : Tree) (m : ℕ) (U : Tree) → Once T → Once U → ((g : ℕ) → 0 < count T g → 0 < count U g → ⊥) → ¬ (0 < count T m)
     → ¬ (0 < count U m) → Once (Tree.series T m U)
-once-series T m U oT oU apart noT noU g = go (ℕ_discrete g m)
+once_series T m U oT oU apart noT noU g = go (ℕ_discrete g m)
   where
     go : Dec (g ≡ m) → count T g + is m g + count U g ≤ 1
-    go (yes e) = rw e (omega (arith, is-self m))
-    go (no d) = omega (arith, is-other m g d, exclusive (count T g) (count U g) (oT g) (oU g) (apart g))
+    go (yes e) = rw e (omega (arith, is_self m))
+    go (no d) = omega (arith, is_other m g d, exclusive (count T g) (count U g) (oT g) (oU g) (apart g))
 
 module _ (ws : List Wire) where
-  pub inside-stands : (P : Shape) (a b g : ℕ) → Inside P g → 0 < count (tree_of ws P a b) g
-  inside-stands wire a b g i = absurd i
-  inside-stands (series P m Q) a b g (inl i) = omega (arith, inside-stands P a m g i)
-  inside-stands (series P m Q) a b g (inr (inl e)) = rw e (omega (arith, is-self m))
-  inside-stands (series P m Q) a b g (inr (inr i)) = omega (arith, inside-stands Q m b g i)
-  inside-stands (parallel P Q) a b g (inl i) = omega (arith, inside-stands P a b g i)
-  inside-stands (parallel P Q) a b g (inr i) = omega (arith, inside-stands Q a b g i)
+  pub inside_stands : (P : Shape) (a b g : ℕ) → Inside P g → 0 < count (tree_of ws P a b) g
+  inside_stands wire a b g i = absurd i
+  inside_stands (series P m Q) a b g (inl i) = omega (arith, inside_stands P a m g i)
+  inside_stands (series P m Q) a b g (inr (inl e)) = rw e (omega (arith, is_self m))
+  inside_stands (series P m Q) a b g (inr (inr i)) = omega (arith, inside_stands Q m b g i)
+  inside_stands (parallel P Q) a b g (inl i) = omega (arith, inside_stands P a b g i)
+  inside_stands (parallel P Q) a b g (inr i) = omega (arith, inside_stands Q a b g i)
 
-  pub stands-inside : (P : Shape) (a b g : ℕ) → 0 < count (tree_of ws P a b) g → Inside P g
-  stands-inside wire a b g l = absurd (omega arith)
-  stands-inside (series P m Q) a b g l =
-      in-series (tree_of ws P a m) m (tree_of ws Q m b) g (Inside (series P m Q) g) l
-      (λ i. inl (stands-inside P a m g i))
+  pub stands_inside : (P : Shape) (a b g : ℕ) → 0 < count (tree_of ws P a b) g → Inside P g
+  stands_inside wire a b g l = absurd (omega arith)
+  stands_inside (series P m Q) a b g l =
+      in_series (tree_of ws P a m) m (tree_of ws Q m b) g (Inside (series P m Q) g) l
+      (λ i. inl (stands_inside P a m g i))
       (λ e. inr (inl e))
-      (λ i. inr (inr (stands-inside Q m b g i)))
-  stands-inside (parallel P Q) a b g l =
-      in-parallel (tree_of ws P a b) (tree_of ws Q a b) g (Inside (parallel P Q) g) l
-      (λ i. inl (stands-inside P a b g i))
-      (λ i. inr (stands-inside Q a b g i))
+      (λ i. inr (inr (stands_inside Q m b g i)))
+  stands_inside (parallel P Q) a b g l =
+      in_parallel (tree_of ws P a b) (tree_of ws Q a b) g (Inside (parallel P Q) g) l
+      (λ i. inl (stands_inside P a b g i))
+      (λ i. inr (stands_inside Q a b g i))
 
-  pub stands-once : (P : Shape) (a b : ℕ) → Part a b P → Once (tree_of ws P a b)
-  stands-once wire a b p = λ g. omega arith
-  stands-once (series P m Q) a b (p, q, share) =
-      once-series (tree_of ws P a m) m (tree_of ws Q m b) (stands-once P a m p) (stands-once Q m b q)
-      (λ g l k. noP (rw (share g (inr (inr (stands-inside P a m g l))) (inr (inr (stands-inside Q m b g k)))) at l)) noP
-      (λ l. (ends Q m b q).not_first (stands-inside Q m b m l))
+  pub stands_once : (P : Shape) (a b : ℕ) → Part a b P → Once (tree_of ws P a b)
+  stands_once wire a b p = λ g. omega arith
+  stands_once (series P m Q) a b (p, q, share) =
+      once_series (tree_of ws P a m) m (tree_of ws Q m b) (stands_once P a m p) (stands_once Q m b q)
+      (λ g l k. noP (rw (share g (inr (inr (stands_inside P a m g l))) (inr (inr (stands_inside Q m b g k)))) at l)) noP
+      (λ l. (ends Q m b q).not_first (stands_inside Q m b m l))
     where
       noP : ¬ (0 < count (tree_of ws P a m) m)
-      noP l = (ends P a m p).not_last (stands-inside P a m m l)
-  stands-once (parallel P Q) a b (p, q, share, wires) =
-      λ g. exclusive _ _ (stands-once P a b p g) (stands-once Q a b q g) (λ l k. apart g (stands-inside P a b g l) (stands-inside Q a b g k))
+      noP l = (ends P a m p).not_last (stands_inside P a m m l)
+  stands_once (parallel P Q) a b (p, q, share, wires) =
+      λ g. exclusive _ _ (stands_once P a b p g) (stands_once Q a b q g) (λ l k. apart g (stands_inside P a b g l) (stands_inside Q a b g k))
     where
       apart : (g : ℕ) → Inside P g → Inside Q g → ⊥
       apart g i j = go (share g (inr (inr i)) (inr (inr j)))

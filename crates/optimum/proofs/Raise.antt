@@ -7,7 +7,7 @@ use native.Mathlib.Nat.{le_refl}
 use native.Mathlib.Decide.{dec_le}
 use native.Mathlib.Omega.{arith}
 use Rattle.optimum.specs.Tree.{wire, series, parallel, Tree, St, zeros, longest, next, Given, Run, done, ended, more, Raised, Priced}
-use Rattle.optimum.proofs.Tick.{lower, next-at-most-price, ticked}
+use Rattle.optimum.proofs.Tick.{lower, next_at_most_price, ticked}
 
 -- a run of no tick changes nothing
 no_run : (v : ℕ → ℕ → ℕ) (t : Tree) (k : ℕ) (r s : St t) → Run v t k r s → k ≡ 0 → s ≡ r
@@ -20,10 +20,10 @@ module _ (d : ℕ → ℕ) (v : ℕ → ℕ → ℕ) (falls : (g k : ℕ) → v 
   abbrev pub Good : (t : Tree) → St t → Type 0
   Good t s = Priced d v t s (next v t s)
 
-  pub given-good : (t : Tree) (w : ℕ) (s s' : St t) → 0 < next v t s → Good t s → Given v t w s s' → Good t s'
-  given-good t w s s' pos good g =
+  pub given_good : (t : Tree) (w : ℕ) (s s' : St t) → 0 < next v t s → Good t s → Given v t w s s' → Good t s'
+  given_good t w s s' pos good g =
       let r = ticked d v falls t w s s' (next v t s) refl pos good g in
-      lower d v t s' (next v t s) (next v t s') r.priced (le_refl _) (next-at-most-price d v t s' (next v t s) r.priced)
+      lower d v t s' (next v t s) (next v t s') r.priced (le_refl _) (next_at_most_price d v t s' (next v t s) r.priced)
 
   -- what k ticks, or fewer where nothing more is to be gained, do to a good part
   pub record Ran (t : Tree) (k : ℕ) (r s : St t) : Type 0 where
@@ -38,12 +38,12 @@ module _ (d : ℕ → ℕ) (v : ℕ → ℕ → ℕ) (falls : (g k : ℕ) → v 
       go (inl l) = inl (omega arith)
       go (inr z) = inr z
 
-  pub run-good : (t : Tree) (k : ℕ) (r s : St t) → Good t r → Run v t k r s → Ran t k r s
-  run-good t k r s good done = record { good = good; length = inl (omega arith); at_most = omega arith }
-  run-good t k r s good (ended z) = record { good = good; length = inr z; at_most = omega arith }
-  run-good t k r s good (more w {k = j} {s' = u} pos worth g rest) =
+  pub run_good : (t : Tree) (k : ℕ) (r s : St t) → Good t r → Run v t k r s → Ran t k r s
+  run_good t k r s good done = record { good = good; length = inl (omega arith); at_most = omega arith }
+  run_good t k r s good (ended z) = record { good = good; length = inr z; at_most = omega arith }
+  run_good t k r s good (more w {k = j} {s' = u} pos worth g rest) =
       further t w j r u s (ticked d v falls t w r u (next v t r) refl worth good g).longer
-      (run-good t j u s (given-good t w r u worth good g) rest)
+      (run_good t j u s (given_good t w r u worth good g) rest)
 
   pub record Raise (t : Tree) (s : St t) : Type 0 where
     pub length : longest d t s ≡ longest d t (zeros t)
@@ -51,7 +51,7 @@ module _ (d : ℕ → ℕ) (v : ℕ → ℕ → ℕ) (falls : (g k : ℕ) → v 
 
   -- A short and a long side, raised: the short one is as long as the long one, or has nothing more to gain; the long one is as it was.
   record Evened (S L : Tree) (s : St S) (l : St L) : Type 0 where
-    short-good : Good S s
+    short_good : Good S s
     length : (longest d L l ≤ longest d S s) ⊎ (next v S s ≡ 0)
     at_most : longest d S s ≤ longest d L l
     long : Raise L l
@@ -62,7 +62,7 @@ module _ (d : ℕ → ℕ) (v : ℕ → ℕ → ℕ) (falls : (g k : ℕ) → v 
       → Evened S L s l
   evened S L s₀ s l₀ l short long h runS runL =
       record {
-        short-good = ran.good;
+        short_good = ran.good;
         length = go ran.length;
         at_most = omega (arith, ran.at_most, short.length, long'.length);
         long = long';
@@ -70,7 +70,7 @@ module _ (d : ℕ → ℕ) (v : ℕ → ℕ → ℕ) (falls : (g k : ℕ) → v 
       }
     where
       ran : Ran S (longest d L (zeros L) - longest d S (zeros S)) s₀ s
-      ran = run-good S _ s₀ s (short.priced _ (le_refl _)) runS
+      ran = run_good S _ s₀ s (short.priced _ (le_refl _)) runS
 
       long' : Raise L l
       long' = rw (no_run v L _ l₀ l runL (omega arith)) long
@@ -81,12 +81,12 @@ module _ (d : ℕ → ℕ) (v : ℕ → ℕ → ℕ) (falls : (g k : ℕ) → v 
       go (inr z) = inr z
 
   -- a side as long as the longer one is as long as the whole
-  as-whole : (own other whole : ℕ) {End : Type 0} → whole ≤ other → (other ≤ own) ⊎ End → (whole ≤ own) ⊎ End
-  as-whole own other whole h (inl e) = inl (omega arith)
-  as-whole own other whole h (inr z) = inr z
+  as_whole : (own other whole : ℕ) {End : Type 0} → whole ≤ other → (other ≤ own) ⊎ End → (whole ≤ own) ⊎ End
+  as_whole own other whole h (inl e) = inl (omega arith)
+  as_whole own other whole h (inr z) = inr z
 
-  raised-sides : (P Q : Tree) (s : St (parallel P Q)) → Evened P Q s.0 s.1 ⊎ Evened Q P s.1 s.0 → Raise (parallel P Q) s
-  raised-sides P Q s (inl e) =
+  raised_sides : (P Q : Tree) (s : St (parallel P Q)) → Evened P Q s.0 s.1 ⊎ Evened Q P s.1 s.0 → Raise (parallel P Q) s
+  raised_sides P Q s (inl e) =
       let m = e.at_most in
       record {
         length = omega (arith, e.long.length, e.shorter);
@@ -94,13 +94,13 @@ module _ (d : ℕ → ℕ) (v : ℕ → ℕ → ℕ) (falls : (g k : ℕ) → v 
           next v P s.0,
           c - next v P s.0,
           omega arith,
-          e.short-good,
+          e.short_good,
           e.long.priced _ (omega arith),
-          as-whole _ _ _ (omega arith) e.length,
+          as_whole _ _ _ (omega arith) e.length,
           inl (omega arith),
         );
       }
-  raised-sides P Q s (inr e) =
+  raised_sides P Q s (inr e) =
       let m = e.at_most in
       record {
         length = omega (arith, e.long.length, e.shorter);
@@ -109,16 +109,16 @@ module _ (d : ℕ → ℕ) (v : ℕ → ℕ → ℕ) (falls : (g k : ℕ) → v 
           next v Q s.1,
           omega arith,
           e.long.priced _ (omega arith),
-          e.short-good,
+          e.short_good,
           inl (omega arith),
-          as-whole _ _ _ (omega arith) e.length,
+          as_whole _ _ _ (omega arith) e.length,
         );
       }
 
-  raised-parallel : (P Q : Tree) (s : St (parallel P Q)) (p : St P) (q : St Q) → Raise P p → Raise Q q
+  raised_parallel : (P Q : Tree) (s : St (parallel P Q)) (p : St P) (q : St Q) → Raise P p → Raise Q q
       → Run v P (longest d Q (zeros Q) - longest d P (zeros P)) p s.0 → Run v Q (longest d P (zeros P) - longest d Q (zeros Q)) q s.1
       → Raise (parallel P Q) s
-  raised-parallel P Q s p q rp rq runP runQ = raised-sides P Q s (go (dec_le _ _))
+  raised_parallel P Q s p q rp rq runP runQ = raised_sides P Q s (go (dec_le _ _))
     where
       go : Dec (longest d P (zeros P) ≤ longest d Q (zeros Q)) → Evened P Q s.0 s.1 ⊎ Evened Q P s.1 s.0
       go (yes l) = inl (evened P Q p s.0 q s.1 rp rq l runP runQ)
@@ -133,4 +133,4 @@ module _ (d : ℕ → ℕ) (v : ℕ → ℕ → ℕ) (falls : (g k : ℕ) → v 
         length = omega (arith, rp.length, rq.length);
         priced = λ c n. (rp.priced c (omega arith), omega arith, λ i l. absurd (omega arith), rq.priced c (omega arith));
       }
-  raised (parallel P Q) s (p, q, hp, hq, runP, runQ) = raised-parallel P Q s p q (raised P p hp) (raised Q q hq) runP runQ
+  raised (parallel P Q) s (p, q, hp, hq, runP, runQ) = raised_parallel P Q s p q (raised P p hp) (raised Q q hq) runP runQ

@@ -1,11 +1,11 @@
 -- Handing out ticks by heads: to the item that leads in a series part, to both sides of a parallel part.
 use Rattle.std.specs.Prelude.{ℕ, zero, suc, ◌+◌, ◌-◌}
 use Rattle.optimum.specs.Tree.{wire, series, parallel, Tree, St, zeros, longest}
-use Rattle.optimum.specs.Head.{Head, no-head, item, turn, best_of, beside}
+use Rattle.optimum.specs.Head.{Head, no_head, item, turn, best_of, beside}
 
 -- the head of a part
 abbrev pub head : (ℕ → ℕ → Head) → (t : Tree) → St t → Head
-head h (wire w) s = no-head
+head h (wire w) s = no_head
 head h (series P m Q) s = best_of (head h P s.0) (h m s.1) (head h Q s.2)
 head h (parallel P Q) s = beside (head h P s.0) (head h Q s.1)
 

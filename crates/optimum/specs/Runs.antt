@@ -4,7 +4,7 @@ use Rattle.model.specs.Curve.{Pair}
 use Rattle.optimum.specs.Tree.{Tree, St}
 use Rattle.optimum.specs.Head.{Head}
 use Rattle.optimum.specs.Handout.{head, give}
-use Rattle.optimum.specs.Increases.{read, give-list}
+use Rattle.optimum.specs.Increases.{read, give_list}
 
 -- the width and the gain of a head
 abbrev pub pair_of : Head → Pair
@@ -17,11 +17,11 @@ runs h t (suc f) s =
     cond (eqb (head h t s).gain 0) [] (pair_of (head h t s) ∷ runs h t f (give h t (head h t s).width s))
 
 -- the same from a list of increases on
-unfoldable pub runs-list : (ℕ → ℕ → Head) → Tree → ℕ → List ℕ → List Pair
-runs-list h t zero x = []
-runs-list h t (suc f) x =
+unfoldable pub runs_list : (ℕ → ℕ → Head) → Tree → ℕ → List ℕ → List Pair
+runs_list h t zero x = []
+runs_list h t (suc f) x =
     cond (eqb (head h t (read t x)).gain 0) []
-    (pair_of (head h t (read t x)) ∷ runs-list h t f (give-list h t (head h t (read t x)).width x))
+    (pair_of (head h t (read t x)) ∷ runs_list h t f (give_list h t (head h t (read t x)).width x))
 
 -- a pair in front of a curve, joined to its first pair where the gain is the same
 unfoldable pub onto : Pair → List Pair → List Pair

@@ -17,9 +17,9 @@ abbrev pick : {a b : ℕ} → Dec (a ≡ b) → ℕ → ℕ → ℕ
 pick (yes e) x y = x
 pick (no d) x y = y
 
-pick-equal : {a b : ℕ} (d : Dec (a ≡ b)) (x y : ℕ) → a ≡ b → pick d x y ≡ x
-pick-equal (yes e) x y h = refl
-pick-equal (no d) x y h = absurd (d h)
+pick_equal : {a b : ℕ} (d : Dec (a ≡ b)) (x y : ℕ) → a ≡ b → pick d x y ≡ x
+pick_equal (yes e) x y h = refl
+pick_equal (no d) x y h = absurd (d h)
 
 pick_other : {a b : ℕ} (d : Dec (a ≡ b)) (x y : ℕ) → a ≢ b → pick d x y ≡ y
 pick_other (yes e) x y h = absurd (h e)
@@ -48,7 +48,7 @@ module _ (m n : ℕ) (f g : ℕ → ℕ) (s : Sent (suc m) (suc n) f g) where
   below' i h (no d) = let a = s.below i (omega arith) in omega arith
 
   back' : (i : ℕ) → i < m → (d : Dec (f i ≡ n)) → g' (pick d (f m) (f i)) ≡ i
-  back' i h (yes e) = pick-equal (ℕ_discrete (f m) (f m)) (g n) (g (f m)) refl ∙ ap g (sym e) ∙ s.back i (omega arith)
+  back' i h (yes e) = pick_equal (ℕ_discrete (f m) (f m)) (g n) (g (f m)) refl ∙ ap g (sym e) ∙ s.back i (omega arith)
   back' i h (no d) = pick_other (ℕ_discrete (f i) (f m)) (g n) (g (f i)) (apart i h) ∙ s.back i (omega arith)
 
   fewer : Sent m n f' g'
@@ -75,14 +75,14 @@ module _ (m n : ℕ) (f g : ℕ → ℕ) (s : Sent m n f g) (x : ℕ) (inside : 
   below⁺ i h (no d) = s.below i (omega arith)
 
   back⁺ : (i : ℕ) → i < suc m → (d : Dec (i ≡ m)) → g⁺ (pick d x (f i)) ≡ i
-  back⁺ i h (yes e) = pick-equal (ℕ_discrete x x) m (g x) refl ∙ sym e
+  back⁺ i h (yes e) = pick_equal (ℕ_discrete x x) m (g x) refl ∙ sym e
   back⁺ i h (no d) =
       let l : i < m = omega arith in
       pick_other (ℕ_discrete (f i) x) m (g (f i)) (free i l) ∙ s.back i l
 
   -- where nothing is sent to some number below n, there is room for one more
-  pub room-left : m < n
-  room-left =
+  pub room_left : m < n
+  room_left =
       pigeonhole (suc m) n f⁺ g⁺
       (record {
         below = λ i h. below⁺ i h (ℕ_discrete i m);

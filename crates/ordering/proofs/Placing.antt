@@ -11,8 +11,8 @@ use lib.ListN.{length, get_or, set}
 use lib.Seq.{get_or-set_same, get_or-set_other}
 use Rattle.ordering.specs.Order.{Order, Placed}
 use Rattle.ordering.proofs.Reach.{Reach}
-use Rattle.ordering.proofs.Loop.{loop-in}
-use Rattle.ordering.proofs.Pigeonhole.{pigeonhole, room-left}
+use Rattle.ordering.proofs.Loop.{loop_in}
+use Rattle.ordering.proofs.Pigeonhole.{pigeonhole, room_left}
 
 -- A wire into gate g comes from a gate that is not placed.
 pub record Waits (E : ℕ → ℕ → Type 0) (n : ℕ) (place : List ℕ) (g : ℕ) : Type 0 where
@@ -20,24 +20,24 @@ pub record Waits (E : ℕ → ℕ → Type 0) (n : ℕ) (place : List ℕ) (g : 
   pub wire : E source g
   pub unplaced : n ≤ get_or place source 0
 
-module _ (E : ℕ → ℕ → Type 0) (n : ℕ) (joins-gates : (a b : ℕ) → E a b → (a < n) × (b < n)) where
-  pub none-placed : (place order : List ℕ) → ((g : ℕ) → g < n → n ≤ get_or place g 0) → Placed E n place order 0
-  none-placed place order free =
+module _ (E : ℕ → ℕ → Type 0) (n : ℕ) (joins_gates : (a b : ℕ) → E a b → (a < n) × (b < n)) where
+  pub none_placed : (place order : List ℕ) → ((g : ℕ) → g < n → n ≤ get_or place g 0) → Placed E n place order 0
+  none_placed place order free =
       record {
         within = omega arith;
-        names-gate = λ k h. absurd (not-suc-le-zero h);
+        names_gate = λ k h. absurd (not-suc-le-zero h);
         place_of = λ k h. absurd (not-suc-le-zero h);
-        has-place = λ g h l. let f = free g h in omega arith;
-        stands-there = λ g h l. let f = free g h in absurd (omega arith);
-        forward = λ a b e l. let f = free b (joins-gates a b e).1 in absurd (omega arith);
+        has_place = λ g h l. let f = free g h in omega arith;
+        stands_there = λ g h l. let f = free g h in absurd (omega arith);
+        forward = λ a b e l. let f = free b (joins_gates a b e).1 in absurd (omega arith);
       }
 
   module _ (place order : List ℕ) (count : ℕ) (P : Placed E n place order count) where
     -- while a gate is not placed, there is room
     pub room : (g : ℕ) → g < n → n ≤ get_or place g 0 → count < n
     room g h u =
-        room-left count n (λ k. get_or order k 0) (λ x. get_or place x 0)
-        (record { below = P.names-gate; back = P.place_of })
+        room_left count n (λ k. get_or order k 0) (λ x. get_or place x 0)
+        (record { below = P.names_gate; back = P.place_of })
         g h
         (λ k l e. let p : get_or place g 0 ≡ k = ap (λ (x : ℕ). get_or place x 0) (sym e) ∙ P.place_of k l in
         let w = P.within in
@@ -57,8 +57,8 @@ module _ (E : ℕ → ℕ → Type 0) (n : ℕ) (joins-gates : (a b : ℕ) → E
       place_other : (h : ℕ) → h ≢ g → get_or place⁺ h 0 ≡ get_or place h 0
       place_other h d = get_or-set_other place g h count 0 d
 
-      order-here : (k : ℕ) → k ≡ count → get_or order⁺ k 0 ≡ g
-      order-here k e = ap (λ (x : ℕ). get_or order⁺ x 0) e ∙ get_or-set_same order count g 0 fits
+      order_here : (k : ℕ) → k ≡ count → get_or order⁺ k 0 ≡ g
+      order_here k e = ap (λ (x : ℕ). get_or order⁺ x 0) e ∙ get_or-set_same order count g 0 fits
 
       order_other : (k : ℕ) → k ≢ count → get_or order⁺ k 0 ≡ get_or order k 0
       order_other k d = get_or-set_other order count k g 0 d
@@ -67,32 +67,32 @@ module _ (E : ℕ → ℕ → Type 0) (n : ℕ) (joins-gates : (a b : ℕ) → E
       other : (h : ℕ) → get_or place h 0 < n → h ≢ g
       other h l e = let same : get_or place h 0 ≡ get_or place g 0 = ap (λ (x : ℕ). get_or place x 0) e in omega arith
 
-      names-gate⁺ : (k : ℕ) → k < count + 1 → Dec (k ≡ count) → get_or order⁺ k 0 < n
-      names-gate⁺ k h (yes e) = rw (order-here k e) gate
-      names-gate⁺ k h (no d) = rw (order_other k d) (P.names-gate k (omega arith))
+      names_gate⁺ : (k : ℕ) → k < count + 1 → Dec (k ≡ count) → get_or order⁺ k 0 < n
+      names_gate⁺ k h (yes e) = rw (order_here k e) gate
+      names_gate⁺ k h (no d) = rw (order_other k d) (P.names_gate k (omega arith))
 
-      place-of⁺ : (k : ℕ) → k < count + 1 → Dec (k ≡ count) → get_or place⁺ (get_or order⁺ k 0) 0 ≡ k
-      place-of⁺ k h (yes e) = place_here (get_or order⁺ k 0) (order-here k e) ∙ sym e
-      place-of⁺ k h (no d) =
+      place_of⁺ : (k : ℕ) → k < count + 1 → Dec (k ≡ count) → get_or place⁺ (get_or order⁺ k 0) 0 ≡ k
+      place_of⁺ k h (yes e) = place_here (get_or order⁺ k 0) (order_here k e) ∙ sym e
+      place_of⁺ k h (no d) =
           let l : k < count = omega arith in
           let p = P.place_of k l in
           let w = P.within in
           rw (order_other k d) (place_other (get_or order k 0) (other (get_or order k 0) (omega arith)) ∙ p)
 
-      has-place⁺ : (h : ℕ) → h < n → Dec (h ≡ g) → get_or place⁺ h 0 < n → get_or place⁺ h 0 < count + 1
-      has-place⁺ h b (yes e) l = let p = place_here h e in omega arith
-      has-place⁺ h b (no d) l =
+      has_place⁺ : (h : ℕ) → h < n → Dec (h ≡ g) → get_or place⁺ h 0 < n → get_or place⁺ h 0 < count + 1
+      has_place⁺ h b (yes e) l = let p = place_here h e in omega arith
+      has_place⁺ h b (no d) l =
           let p = place_other h d in
-          let q = P.has-place h b (omega arith) in
+          let q = P.has_place h b (omega arith) in
           omega arith
 
-      stands-there⁺ : (h : ℕ) → h < n → Dec (h ≡ g) → get_or place⁺ h 0 < n → get_or order⁺ (get_or place⁺ h 0) 0 ≡ h
-      stands-there⁺ h b (yes e) l = order-here (get_or place⁺ h 0) (place_here h e) ∙ sym e
-      stands-there⁺ h b (no d) l =
+      stands_there⁺ : (h : ℕ) → h < n → Dec (h ≡ g) → get_or place⁺ h 0 < n → get_or order⁺ (get_or place⁺ h 0) 0 ≡ h
+      stands_there⁺ h b (yes e) l = order_here (get_or place⁺ h 0) (place_here h e) ∙ sym e
+      stands_there⁺ h b (no d) l =
           let p = place_other h d in
           let i : get_or place h 0 < n = omega arith in
-          let q = P.has-place h b i in
-          rw p (order_other (get_or place h 0) (λ x. omega arith) ∙ P.stands-there h b i)
+          let q = P.has_place h b i in
+          rw p (order_other (get_or place h 0) (λ x. omega arith) ∙ P.stands_there h b i)
 
       forward⁺ : (a b : ℕ) → E a b → Dec (b ≡ g) → get_or place⁺ b 0 < n → get_or place⁺ a 0 < get_or place⁺ b 0
       forward⁺ a b e (yes i) l =
@@ -107,27 +107,27 @@ module _ (E : ℕ → ℕ → Type 0) (n : ℕ) (joins-gates : (a b : ℕ) → E
           let r = place_other a (other a (omega arith)) in
           omega arith
 
-      pub placed-next : Placed E n place⁺ order⁺ (count + 1)
-      placed-next =
+      pub placed_next : Placed E n place⁺ order⁺ (count + 1)
+      placed_next =
           record {
             within = let r = room g gate unplaced in omega arith;
-            names-gate = λ k h. names-gate⁺ k h (ℕ_discrete k count);
-            place_of = λ k h. place-of⁺ k h (ℕ_discrete k count);
-            has-place = λ h b. has-place⁺ h b (ℕ_discrete h g);
-            stands-there = λ h b. stands-there⁺ h b (ℕ_discrete h g);
+            names_gate = λ k h. names_gate⁺ k h (ℕ_discrete k count);
+            place_of = λ k h. place_of⁺ k h (ℕ_discrete k count);
+            has_place = λ h b. has_place⁺ h b (ℕ_discrete h g);
+            stands_there = λ h b. stands_there⁺ h b (ℕ_discrete h g);
             forward = λ a b e. forward⁺ a b e (ℕ_discrete b g);
           }
 
   -- Every gate has a place once there are n.
-  pub whole-order : (place order : List ℕ) → Placed E n place order n → Order E n order
-  whole-order place order P =
+  pub whole_order : (place order : List ℕ) → Placed E n place order n → Order E n order
+  whole_order place order P =
       record {
         place = λ g. get_or place g 0;
-        names-gate = P.names-gate;
+        names_gate = P.names_gate;
         place_of = P.place_of;
-        has-place = all;
-        stands-there = λ g h. P.stands-there g h (all g h);
-        forward = λ a b e. P.forward a b e (all b (joins-gates a b e).1);
+        has_place = all;
+        stands_there = λ g h. P.stands_there g h (all g h);
+        forward = λ a b e. P.forward a b e (all b (joins_gates a b e).1);
       }
     where
       placed_of : (g : ℕ) → g < n → Dec (get_or place g 0 < n) → get_or place g 0 < n
@@ -141,10 +141,10 @@ module _ (E : ℕ → ℕ → Type 0) (n : ℕ) (joins-gates : (a b : ℕ) → E
   abbrev Unplaced : List ℕ → ℕ → Type 0
   Unplaced place g = (g < n) × (n ≤ get_or place g 0)
 
-  unplaced-decided : (place : List ℕ) (g : ℕ) → Dec (g < n) → Dec (n ≤ get_or place g 0) → Dec (Unplaced place g)
-  unplaced-decided place g (yes h) (yes u) = yes (h, u)
-  unplaced-decided place g (yes h) (no d) = no (λ w. d w.1)
-  unplaced-decided place g (no d) u = no (λ w. d w.0)
+  unplaced_decided : (place : List ℕ) (g : ℕ) → Dec (g < n) → Dec (n ≤ get_or place g 0) → Dec (Unplaced place g)
+  unplaced_decided place g (yes h) (yes u) = yes (h, u)
+  unplaced_decided place g (yes h) (no d) = no (λ w. d w.1)
+  unplaced_decided place g (no d) u = no (λ w. d w.0)
 
   module _ (place order : List ℕ) (count : ℕ) (P : Placed E n place order count) where
     -- an unplaced gate below k, or all below k are placed
@@ -159,27 +159,27 @@ module _ (E : ℕ → ℕ → Type 0) (n : ℕ) (joins-gates : (a b : ℕ) → E
         next (inr all) (no d) = inl (k, (omega arith, omega arith))
 
     -- While fewer than n gates are placed, some gate is not.
-    some-unplaced : count < n → (g : ℕ) × Unplaced place g
-    some-unplaced few = go (some_below n (omega arith))
+    some_unplaced : count < n → (g : ℕ) × Unplaced place g
+    some_unplaced few = go (some_below n (omega arith))
       where
         go : ((g : ℕ) × Unplaced place g) ⊎ ((g : ℕ) → g < n → get_or place g 0 < n) → (g : ℕ) × Unplaced place g
         go (inl u) = u
         go (inr all) =
             let most = pigeonhole n count (λ g. get_or place g 0) (λ k. get_or order k 0)
-            (record { below = λ g h. P.has-place g h (all g h); back = λ g h. P.stands-there g h (all g h) }) in
+            (record { below = λ g h. P.has_place g h (all g h); back = λ g h. P.stands_there g h (all g h) }) in
             absurd (omega arith)
 
   -- Where gates are left and each of them waits, there is a loop.
-  pub stuck-loop : (place order : List ℕ) (count : ℕ) → Placed E n place order count
+  pub stuck_loop : (place order : List ℕ) (count : ℕ) → Placed E n place order count
       → ((g : ℕ) → g < n → n ≤ get_or place g 0 → Waits E n place g)
       → count < n
       → (g : ℕ) × Reach E g g
-  stuck-loop place order count P stuck few =
-      let u = some-unplaced place order count P few in
-      loop-in n E (Unplaced place)
+  stuck_loop place order count P stuck few =
+      let u = some_unplaced place order count P few in
+      loop_in n E (Unplaced place)
       (record {
         bounded = λ g s. s.0;
-        decided = λ g. unplaced-decided place g (dec_lt g n) (dec_le n (get_or place g 0));
-        fed = λ g s. let w = stuck g s.0 s.1 in (w.source, ((joins-gates w.source g w.wire).0, w.unplaced), w.wire);
+        decided = λ g. unplaced_decided place g (dec_lt g n) (dec_le n (get_or place g 0));
+        fed = λ g s. let w = stuck g s.0 s.1 in (w.source, ((joins_gates w.source g w.wire).0, w.unplaced), w.wire);
       })
       u.0 u.1

@@ -5,11 +5,11 @@ pub mod chain;
 pub mod marking;
 
 ghost use Rattle.std.specs.Prelude.{◌≡◌, ℕ, ◌+◌, ◌-◌, ◌≤◌, ◌<◌, length, get_or, set};
-ghost use Rattle.model.specs.Limits.{max-gates, max-wires};
+ghost use Rattle.model.specs.Limits.{max_gates, max_wires};
 ghost use Rattle.model.specs.Block.{Block};
 ghost use Rattle.ordering.specs.Wires.{Lent, InArrays};
 ghost use Rattle.ordering.specs.Order.{SameBeyond, OrderFound};
-ghost use Rattle.ordering.specs.Counts.{wires-into, Visit, FreePlaced, Linked, Counted};
+ghost use Rattle.ordering.specs.Counts.{wires_into, Visit, FreePlaced, Linked, Counted};
 
 use chain::chain_wires;
 use marking::at;
@@ -17,10 +17,10 @@ use model::limits::{MAX_GATES, MAX_WIRES};
 
 // Counts the wires into each gate.
 fn count_wires(m: usize, targets: &[u32], left: &mut [u32])
-    requires m_le_max_wires { (m ≤ max-wires) × (m ≤ length targets.now) }
+    requires m_le_max_wires { (m ≤ max_wires) × (m ≤ length targets.now) }
     requires by_index { (i : ℕ) → i < m → get_or targets.now i 0 < length left.old }
     requires by_index_2 { (g : ℕ) → get_or left.old g 0 ≡ 0 }
-    ensures { (g : ℕ) → get_or left.new g 0 ≡ wires-into targets.now m g }
+    ensures { (g : ℕ) → get_or left.new g 0 ≡ wires_into targets.now m g }
 {
     let mut i = 0;
     while i < m {
@@ -32,7 +32,7 @@ fn count_wires(m: usize, targets: &[u32], left: &mut [u32])
 
 // Places gate g next if no wire into it is left; answers how many gates are placed.
 fn place_if_free(g: usize, left: &[u32], order: &mut [u32], count: usize) -> usize
-    requires g_lt_max_gates { (g < max-gates) × (count < max-gates) }
+    requires g_lt_max_gates { (g < max_gates) × (count < max_gates) }
     requires g_in_bounds { (g < length left.now) × (count < length order.old) }
     ensures { Visit g left.now order.old count order.new result }
 {
@@ -45,7 +45,7 @@ fn place_if_free(g: usize, left: &[u32], order: &mut [u32], count: usize) -> usi
 
 // Places the gates that no wire leads to; answers how many they are.
 fn place_free(n: usize, left: &[u32], order: &mut [u32]) -> usize
-    requires n_le_max_gates { n ≤ max-gates }
+    requires n_le_max_gates { n ≤ max_gates }
     requires n_in_bounds { (n ≤ length left.now) × (n ≤ length order.old) }
     ensures { FreePlaced n left.now order.old n order.new result }
 {
@@ -60,7 +60,7 @@ fn place_free(n: usize, left: &[u32], order: &mut [u32]) -> usize
 
 // One wire into gate g is passed, and the gate is placed next if that was the last; answers how many gates are placed.
 fn pass_wire(g: usize, left: &mut [u32], order: &mut [u32], count: usize) -> usize
-    requires g_lt_max_gates { (g < max-gates) × (count < max-gates) }
+    requires g_lt_max_gates { (g < max_gates) × (count < max_gates) }
     requires g_in_bounds { (g < length left.old) × (count < length order.old) }
     requires nonzero { 0 < get_or left.old g 0 }
     ensures left_after { left.new ≡ set left.old g (get_or left.old g 0 - 1) }

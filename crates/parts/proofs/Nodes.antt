@@ -1,4 +1,4 @@
--- The tree of a node is made from those of its children (`tree-at`), and arrays that agree on the nodes below n have the same trees there (`grown`): appending a node keeps the old trees. Assumes nothing.
+-- The tree of a node is made from those of its children (`tree_at`), and arrays that agree on the nodes below n have the same trees there (`grown`): appending a node keeps the old trees. Assumes nothing.
 use mathlib.Core.Path.{◌≡◌, refl, sym, ◌∙◌, ap₂}
 use mathlib.Core.Bool.{Bool, true, false}
 use Prim.Native.Nat.{ℕ, zero, suc, ◌<◌}
@@ -6,43 +6,43 @@ use native.Mathlib.Omega.{arith}
 use borrow.Author.Tests.{ltb-true, ltb-false, lt-ltb, le-ltb}
 use lib.Dec.{ltb}
 use lib.ListN.{get_or}
-use Rattle.parts.specs.Nodes.{Tree, leaf, Nodes, node-tree, below, tree_of}
+use Rattle.parts.specs.Nodes.{Tree, leaf, Nodes, node_tree, below, tree_of}
 
 -- node n, made from the trees below it
 made : Nodes → ℕ → Tree
-made N n = node-tree (get_or N.kinds n 0) (below N n (get_or N.lefts n 0)) (get_or N.gates n 0) (below N n (get_or N.rights n 0))
+made N n = node_tree (get_or N.kinds n 0) (below N n (get_or N.lefts n 0)) (get_or N.gates n 0) (below N n (get_or N.rights n 0))
 
-below-lower : (N : Nodes) (n j : ℕ) → j < n → below N (suc n) j ≡ below N n j
+below_lower : (N : Nodes) (n j : ℕ) → j < n → below N (suc n) j ≡ below N n j
 unfolding below
-below-lower N n j h = rw (lt-ltb j n h, below)
+below_lower N n j h = rw (lt-ltb j n h, below)
 
 below_top : (N : Nodes) (n : ℕ) → below N (suc n) n ≡ made N n
 unfolding below made
 below_top N n = rw (le-ltb n n (omega arith), below)
 
-below-tree : (N : Nodes) (n j : ℕ) → j < n → below N n j ≡ tree_of N j
+below_tree : (N : Nodes) (n j : ℕ) → j < n → below N n j ≡ tree_of N j
 unfolding tree_of
-below-tree N zero j h = absurd (omega arith)
-below-tree N (suc n) j h = go (ltb j n) refl (λ l. below-tree N n j l)
+below_tree N zero j h = absurd (omega arith)
+below_tree N (suc n) j h = go (ltb j n) refl (λ l. below_tree N n j l)
   where
     go : (t : Bool) → ltb j n ≡ t → (j < n → below N n j ≡ tree_of N j) → below N (suc n) j ≡ tree_of N j
-    go true e ih = below-lower N n j (ltb-true j n e) ∙ ih (ltb-true j n e)
+    go true e ih = below_lower N n j (ltb-true j n e) ∙ ih (ltb-true j n e)
     go false e ih = let p : j ≡ n = omega (arith, ltb-false j n e) in rw p
 
 -- The tree of a node whose children have smaller numbers.
-pub tree-at :
+pub tree_at :
     (N : Nodes) (i : ℕ)
     → get_or N.lefts i 0 < i
     → get_or N.rights i 0 < i
-    → tree_of N i ≡ node-tree (get_or N.kinds i 0) (tree_of N (get_or N.lefts i 0)) (get_or N.gates i 0) (tree_of N (get_or N.rights i 0))
+    → tree_of N i ≡ node_tree (get_or N.kinds i 0) (tree_of N (get_or N.lefts i 0)) (get_or N.gates i 0) (tree_of N (get_or N.rights i 0))
 unfolding made
-tree-at N i l r =
+tree_at N i l r =
     unfold tree_of in below_top N i
-    ∙ ap₂ (λ P Q. node-tree (get_or N.kinds i 0) P (get_or N.gates i 0) Q) (below-tree N i (get_or N.lefts i 0) l) (below-tree N i (get_or N.rights i 0) r)
+    ∙ ap₂ (λ P Q. node_tree (get_or N.kinds i 0) P (get_or N.gates i 0) Q) (below_tree N i (get_or N.lefts i 0) l) (below_tree N i (get_or N.rights i 0) r)
 
-pub tree-wire : (N : Nodes) (i : ℕ) → get_or N.kinds i 0 ≡ 0 → tree_of N i ≡ leaf (get_or N.gates i 0)
+pub tree_wire : (N : Nodes) (i : ℕ) → get_or N.kinds i 0 ≡ 0 → tree_of N i ≡ leaf (get_or N.gates i 0)
 unfolding made tree_of
-tree-wire N i e = below_top N i ∙ rw e
+tree_wire N i e = below_top N i ∙ rw e
 
 -- the node of number k is the same in both
 pub record SameNode (N M : Nodes) (k : ℕ) : Type 0 where
@@ -51,10 +51,10 @@ pub record SameNode (N M : Nodes) (k : ℕ) : Type 0 where
   pub gate : get_or M.gates k 0 ≡ get_or N.gates k 0
   pub right : get_or M.rights k 0 ≡ get_or N.rights k 0
 
-below-grown : (N M : Nodes) (n : ℕ) → ((k : ℕ) → k < n → SameNode N M k) → (j : ℕ) → below M n j ≡ below N n j
+below_grown : (N M : Nodes) (n : ℕ) → ((k : ℕ) → k < n → SameNode N M k) → (j : ℕ) → below M n j ≡ below N n j
 unfolding below
-below-grown N M zero h j = refl
-below-grown N M (suc n) h j = go (ltb j n) refl (below-grown N M n (λ k l. h k (omega arith)))
+below_grown N M zero h j = refl
+below_grown N M (suc n) h j = go (ltb j n) refl (below_grown N M n (λ k l. h k (omega arith)))
   where
     top : SameNode N M n
     top = h n (omega arith)
@@ -65,4 +65,4 @@ below-grown N M (suc n) h j = go (ltb j n) refl (below-grown N M n (λ k l. h k 
 
 -- Arrays that agree on the nodes below n have the same trees there.
 pub grown : (N M : Nodes) (n : ℕ) → ((k : ℕ) → k < n → SameNode N M k) → (i : ℕ) → i < n → tree_of M i ≡ tree_of N i
-grown N M n h i l = sym (below-tree M n i l) ∙ below-grown N M n h i ∙ below-tree N n i l
+grown N M n h i l = sym (below_tree M n i l) ∙ below_grown N M n h i ∙ below_tree N n i l

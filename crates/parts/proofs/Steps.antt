@@ -1,4 +1,4 @@
--- Every step keeps what holds of the slots (`step_keeps`), and leaves fewer slots live (`step-shrinks`).
+-- Every step keeps what holds of the slots (`step_keeps`), and leaves fewer slots live (`step_shrinks`).
 -- A series step and a step onto a slot that is there are both one merging of two slots (`merge`). That no gate reaches itself is used once, for the two ends of a series part to differ. Assumes nothing.
 use mathlib.Core.Path.{◌≡◌, refl, sym, ◌∙◌, ap, subst, subst₂}
 use mathlib.Core.Logic.{◌≢◌, ◌⊎◌, inl, inr, ◌↔◌, ⊎_elim}
@@ -10,14 +10,14 @@ use native.Mathlib.Omega.{arith}
 use native.Mathlib.Decide.{ℕ_discrete}
 use Rattle.model.specs.Part.{Shape, series, parallel, Inside, HasGate, HasWire}
 use Rattle.parts.specs.Reduction.{Thru, Left, Removable}
-use Rattle.parts.specs.Slots.{Slot, slot, Live, Carries, Between, Merged, Step, alone, onto, live-count}
-use Rattle.parts.proofs.Diamond.{left-more, takes-more}
-use Rattle.parts.proofs.Gates.{part-ends, crossing}
+use Rattle.parts.specs.Slots.{Slot, slot, Live, Carries, Between, Merged, Step, alone, onto, live_count}
+use Rattle.parts.proofs.Diamond.{left_more, takes_more}
+use Rattle.parts.proofs.Gates.{part_ends, crossing}
 use Rattle.parts.specs.Invariant.{Fits, Apart, Reduced, Single, Reducing}
-use Rattle.parts.proofs.State.{LoopFree, fits-as, apart-as, slots-removable}
+use Rattle.parts.proofs.State.{LoopFree, fits_as, apart_as, slots_removable}
 
-apart-turned : {s t : Slot} → Apart s t → Apart t s
-apart-turned a = record { no-gate = λ g i j. a.no-gate g j i; no-wire = λ x y h k. a.no-wire x y k h }
+apart_turned : {s t : Slot} → Apart s t → Apart t s
+apart_turned a = record { no_gate = λ g i j. a.no_gate g j i; no_wire = λ x y h k. a.no_wire x y k h }
 
 -- where a live slot of T comes from
 data Origin (S : ℕ → Slot) (i j : ℕ) (s : Slot) (k : ℕ) (t : Slot) : Type 0 where
@@ -51,18 +51,18 @@ merge :
 merge {E} {R} {Q} {S} {T} {i} {j} {s} {t} {u} r ei ej lt lu m ls grow fit same inner ends =
     record { fits = λ k l. fits k l (origin m k l); covered = λ x y w. covered x y (r.covered x y w); apart = λ k n d lk ln. apart k n d lk ln (origin m k lk) (origin m n ln) }
   where
-    live-old : (k : ℕ) {v : Slot} → v ≡ S k → Live v → Live (S k)
-    live-old k e l = ap (λ z. z.live) (sym e) ∙ l
+    live_old : (k : ℕ) {v : Slot} → v ≡ S k → Live v → Live (S k)
+    live_old k e l = ap (λ z. z.live) (sym e) ∙ l
 
     fits : (k : ℕ) → Live (T k) → Origin S i j s k (T k) → Fits E Q (T k)
     fits k l (joint e f) = subst (Fits E Q) (sym f) fit
-    fits k l (old n o f) = subst (Fits E Q) (sym f) (record { part = b.part; source-left = c.0; target_left = c.1; inside-gone = λ g h. grow g (b.inside-gone g h); wires = b.wires })
+    fits k l (old n o f) = subst (Fits E Q) (sym f) (record { part = b.part; source_left = c.0; target_left = c.1; inside_gone = λ g h. grow g (b.inside_gone g h); wires = b.wires })
       where
         b : Fits E R (S k)
-        b = r.fits k (live-old k f l)
+        b = r.fits k (live_old k f l)
 
         c : Left Q (S k).source × Left Q (S k).target
-        c = ends k (live-old k f l) n o
+        c = ends k (live_old k f l) n o
 
     at_i : (x y : ℕ) → Carries s x y → (k : ℕ) × Live (T k) × Carries (T k) x y
     at_i x y h = (i, ap (λ z. z.live) m.joined ∙ ls, subst (λ z. Carries z x y) (sym m.joined) h)
@@ -79,78 +79,78 @@ merge {E} {R} {Q} {S} {T} {i} {j} {s} {t} {u} r ei ej lt lu m ls grow fit same i
     beside : (k : ℕ) → k ≢ i → k ≢ j → Live (S k) → Apart s (S k)
     beside k n o l =
         record {
-          no-gate = λ g h b. ⊎_elim (λ c. at.no-gate g b c) (⊎_elim (λ c. au.no-gate g b c) (λ c. c ((r.fits k l).inside-gone g b))) (inner g h);
-          no-wire = λ x y h b. ⊎_elim (λ c. at.no-wire x y b c) (λ c. au.no-wire x y b c) ((same x y).0 h);
+          no_gate = λ g h b. ⊎_elim (λ c. at.no_gate g b c) (⊎_elim (λ c. au.no_gate g b c) (λ c. c ((r.fits k l).inside_gone g b))) (inner g h);
+          no_wire = λ x y h b. ⊎_elim (λ c. at.no_wire x y b c) (λ c. au.no_wire x y b c) ((same x y).0 h);
         }
       where
         at : Apart (S k) t
-        at = apart-as r n refl ei l lt
+        at = apart_as r n refl ei l lt
 
         au : Apart (S k) u
-        au = apart-as r o refl ej l lu
+        au = apart_as r o refl ej l lu
 
     apart : (k n : ℕ) → k ≢ n → Live (T k) → Live (T n) → Origin S i j s k (T k) → Origin S i j s n (T n) → Apart (T k) (T n)
     apart k n d lk ln (joint e f) (joint o h) = absurd (d (e ∙ sym o))
-    apart k n d lk ln (joint e f) (old o q h) = subst₂ Apart (sym f) (sym h) (beside n o q (live-old n h ln))
-    apart k n d lk ln (old e q f) (joint o h) = subst₂ Apart (sym f) (sym h) (apart-turned (beside k e q (live-old k f lk)))
-    apart k n d lk ln (old e q f) (old o z h) = subst₂ Apart (sym f) (sym h) (r.apart k n d (live-old k f lk) (live-old n h ln))
+    apart k n d lk ln (joint e f) (old o q h) = subst₂ Apart (sym f) (sym h) (beside n o q (live_old n h ln))
+    apart k n d lk ln (old e q f) (joint o h) = subst₂ Apart (sym f) (sym h) (apart_turned (beside k e q (live_old k f lk)))
+    apart k n d lk ln (old e q f) (old o z h) = subst₂ Apart (sym f) (sym h) (r.apart k n d (live_old k f lk) (live_old n h ln))
 
 -- The two slots of a gate that goes make a part in series.
-module _ {E : ℕ → ℕ → Type 0} {R : List ℕ} {S : ℕ → Slot} (r : Reduced E R S) (loop-free : LoopFree E) {m i j a b : ℕ} {P Q : Shape} (c : Between S m i j a b P Q) where
-  in-fits : Fits E R (slot a P m)
-  in-fits = fits-as r c.into refl
+module _ {E : ℕ → ℕ → Type 0} {R : List ℕ} {S : ℕ → Slot} (r : Reduced E R S) (loop_free : LoopFree E) {m i j a b : ℕ} {P Q : Shape} (c : Between S m i j a b P Q) where
+  in_fits : Fits E R (slot a P m)
+  in_fits = fits_as r c.into refl
 
-  out-fits : Fits E R (slot m Q b)
-  out-fits = fits-as r c.out refl
+  out_fits : Fits E R (slot m Q b)
+  out_fits = fits_as r c.out refl
 
-  in-differ : a ≢ m
-  in-differ = (part-ends P a m in-fits.part).differ
+  in_differ : a ≢ m
+  in_differ = (part_ends P a m in_fits.part).differ
 
-  out-differ : m ≢ b
-  out-differ = (part-ends Q m b out-fits.part).differ
+  out_differ : m ≢ b
+  out_differ = (part_ends Q m b out_fits.part).differ
 
   sides_apart : Apart (slot a P m) (slot m Q b)
-  sides_apart = apart-as r (λ e. in-differ (ap (λ s. s.source) (sym c.into ∙ ap S e ∙ c.out))) c.into c.out refl refl
+  sides_apart = apart_as r (λ e. in_differ (ap (λ s. s.source) (sym c.into ∙ ap S e ∙ c.out))) c.into c.out refl refl
 
-  series-gone : (g : ℕ) → Inside (series P m Q) g → Memᴰ g (m ∷ R)
-  series-gone g = ⊎_elim (λ k. Memᴰ.tail (in-fits.inside-gone g k)) (⊎_elim Memᴰ.head (λ k. Memᴰ.tail (out-fits.inside-gone g k)))
+  series_gone : (g : ℕ) → Inside (series P m Q) g → Memᴰ g (m ∷ R)
+  series_gone g = ⊎_elim (λ k. Memᴰ.tail (in_fits.inside_gone g k)) (⊎_elim Memᴰ.head (λ k. Memᴰ.tail (out_fits.inside_gone g k)))
 
-  series-wires : (x y : ℕ) → HasWire (series P m Q) a b x y → E x y
-  series-wires x y = ⊎_elim (in-fits.wires x y) (out-fits.wires x y)
+  series_wires : (x y : ℕ) → HasWire (series P m Q) a b x y → E x y
+  series_wires x y = ⊎_elim (in_fits.wires x y) (out_fits.wires x y)
 
   -- the one use of acyclicity
-  ends-differ : a ≢ b
-  ends-differ e = loop-free (m ∷ R) b (subst (λ z. Thru E (m ∷ R) z b) e (crossing (series P m Q) a b series-wires series-gone))
+  ends_differ : a ≢ b
+  ends_differ e = loop_free (m ∷ R) b (subst (λ z. Thru E (m ∷ R) z b) e (crossing (series P m Q) a b series_wires series_gone))
 
-  only-middle : (g : ℕ) → HasGate P a m g → HasGate Q m b g → g ≡ m
-  only-middle g (inl e) (inl f) = f
-  only-middle g (inl e) (inr (inl f)) = absurd (ends-differ (sym e ∙ f))
-  only-middle g (inl e) (inr (inr k)) = absurd (in-fits.source-left (Memᴰ.cast (sym e) (out-fits.inside-gone g k)))
-  only-middle g (inr (inl e)) h = e
-  only-middle g (inr (inr k)) (inl f) = f
-  only-middle g (inr (inr k)) (inr (inl f)) = absurd (out-fits.target_left (Memᴰ.cast (sym f) (in-fits.inside-gone g k)))
-  only-middle g (inr (inr k)) (inr (inr n)) = absurd (sides_apart.no-gate g k n)
+  only_middle : (g : ℕ) → HasGate P a m g → HasGate Q m b g → g ≡ m
+  only_middle g (inl e) (inl f) = f
+  only_middle g (inl e) (inr (inl f)) = absurd (ends_differ (sym e ∙ f))
+  only_middle g (inl e) (inr (inr k)) = absurd (in_fits.source_left (Memᴰ.cast (sym e) (out_fits.inside_gone g k)))
+  only_middle g (inr (inl e)) h = e
+  only_middle g (inr (inr k)) (inl f) = f
+  only_middle g (inr (inr k)) (inr (inl f)) = absurd (out_fits.target_left (Memᴰ.cast (sym f) (in_fits.inside_gone g k)))
+  only_middle g (inr (inr k)) (inr (inr n)) = absurd (sides_apart.no_gate g k n)
 
-  series-fits : Fits E (m ∷ R) (slot a (series P m Q) b)
-  series-fits =
+  series_fits : Fits E (m ∷ R) (slot a (series P m Q) b)
+  series_fits =
       record {
-        part = (in-fits.part, out-fits.part, only-middle);
-        source-left = left-more.0 (in-differ, in-fits.source-left);
-        target_left = left-more.0 (λ e. out-differ (sym e), out-fits.target_left);
-        inside-gone = series-gone;
-        wires = series-wires;
+        part = (in_fits.part, out_fits.part, only_middle);
+        source_left = left_more.0 (in_differ, in_fits.source_left);
+        target_left = left_more.0 (λ e. out_differ (sym e), out_fits.target_left);
+        inside_gone = series_gone;
+        wires = series_wires;
       }
 
-  series-merge : {T : ℕ → Slot} → Merged S i j (slot a (series P m Q) b) T → Reduced E (m ∷ R) T
-  series-merge t =
-      merge r c.into c.out refl refl t refl (λ g. Memᴰ.tail) series-fits (λ x y. (λ h. h, λ h. h))
-      (λ g. ⊎_elim inl (⊎_elim (λ e. inr (inr (λ k. in-fits.target_left (Memᴰ.cast (sym e) k)))) (λ k. inr (inl k))))
+  series_merge : {T : ℕ → Slot} → Merged S i j (slot a (series P m Q) b) T → Reduced E (m ∷ R) T
+  series_merge t =
+      merge r c.into c.out refl refl t refl (λ g. Memᴰ.tail) series_fits (λ x y. (λ h. h, λ h. h))
+      (λ g. ⊎_elim inl (⊎_elim (λ e. inr (inr (λ k. in_fits.target_left (Memᴰ.cast (sym e) k)))) (λ k. inr (inl k))))
       (λ k l n o.
       let f = r.fits k l in
-      (left-more.0 (λ e. o (c.only_out k l e), f.source-left), left-more.0 (λ e. n (c.only-in k l e), f.target_left)))
+      (left_more.0 (λ e. o (c.only_out k l e), f.source_left), left_more.0 (λ e. n (c.only_in k l e), f.target_left)))
 
 -- Two slots with the same ends make a part in parallel.
-parallel-merge :
+parallel_merge :
     {E : ℕ → ℕ → Type 0} {R : List ℕ} {S T : ℕ → Slot} {l i a b : ℕ} {O P : Shape}
     → Reduced E R S
     → l ≢ i
@@ -158,32 +158,32 @@ parallel-merge :
     → S i ≡ slot a P b
     → Merged S l i (slot a (parallel O P) b) T
     → Reduced E R T
-parallel-merge {E} {R} {S} {T} {l} {i} {a} {b} {O} {P} r d el ei t =
-    merge r el ei refl refl t refl (λ g k. k) fits (λ x y. (λ h. h, λ h. h)) (λ g. ⊎_elim inl (λ k. inr (inl k))) (λ k live n o. ((r.fits k live).source-left, (r.fits k live).target_left))
+parallel_merge {E} {R} {S} {T} {l} {i} {a} {b} {O} {P} r d el ei t =
+    merge r el ei refl refl t refl (λ g k. k) fits (λ x y. (λ h. h, λ h. h)) (λ g. ⊎_elim inl (λ k. inr (inl k))) (λ k live n o. ((r.fits k live).source_left, (r.fits k live).target_left))
   where
     there : Fits E R (slot a O b)
-    there = fits-as r el refl
+    there = fits_as r el refl
 
     come : Fits E R (slot a P b)
-    come = fits-as r ei refl
+    come = fits_as r ei refl
 
     aside : Apart (slot a O b) (slot a P b)
-    aside = apart-as r d el ei refl refl
+    aside = apart_as r d el ei refl refl
 
-    only-ends : (g : ℕ) → HasGate O a b g → HasGate P a b g → (g ≡ a) ⊎ (g ≡ b)
-    only-ends g (inl e) h = inl e
-    only-ends g (inr (inl e)) h = inr e
-    only-ends g (inr (inr k)) (inl e) = inl e
-    only-ends g (inr (inr k)) (inr (inl e)) = inr e
-    only-ends g (inr (inr k)) (inr (inr n)) = absurd (aside.no-gate g k n)
+    only_ends : (g : ℕ) → HasGate O a b g → HasGate P a b g → (g ≡ a) ⊎ (g ≡ b)
+    only_ends g (inl e) h = inl e
+    only_ends g (inr (inl e)) h = inr e
+    only_ends g (inr (inr k)) (inl e) = inl e
+    only_ends g (inr (inr k)) (inr (inl e)) = inr e
+    only_ends g (inr (inr k)) (inr (inr n)) = absurd (aside.no_gate g k n)
 
     fits : Fits E R (slot a (parallel O P) b)
     fits =
         record {
-          part = (there.part, come.part, only-ends, aside.no-wire);
-          source-left = there.source-left;
+          part = (there.part, come.part, only_ends, aside.no_wire);
+          source_left = there.source_left;
           target_left = there.target_left;
-          inside-gone = λ g. ⊎_elim (there.inside-gone g) (come.inside-gone g);
+          inside_gone = λ g. ⊎_elim (there.inside_gone g) (come.inside_gone g);
           wires = λ x y. ⊎_elim (there.wires x y) (come.wires x y);
         }
 
@@ -191,17 +191,17 @@ parallel-merge {E} {R} {S} {T} {l} {i} {a} {b} {O} {P} r d el ei t =
 put : ℕ → Slot → (ℕ → Slot) → ℕ → Slot
 put i s S k = elim (ℕ_discrete k i) [ yes e ↦ s | no n ↦ S k ]
 
-put-at : (i : ℕ) (s : Slot) (S : ℕ → Slot) → put i s S i ≡ s
+put_at : (i : ℕ) (s : Slot) (S : ℕ → Slot) → put i s S i ≡ s
 unfolding put
-put-at i s S = go (ℕ_discrete i i)
+put_at i s S = go (ℕ_discrete i i)
   where
     go : (d : Dec (i ≡ i)) → elim d as (λ x. Slot) [ yes e ↦ s | no n ↦ S i ] ≡ s
     go (yes e) = refl
     go (no n) = absurd (n refl)
 
-put-off : (i : ℕ) (s : Slot) (S : ℕ → Slot) (k : ℕ) → k ≢ i → put i s S k ≡ S k
+put_off : (i : ℕ) (s : Slot) (S : ℕ → Slot) (k : ℕ) → k ≢ i → put i s S k ≡ S k
 unfolding put
-put-off i s S k n = go (ℕ_discrete k i)
+put_off i s S k n = go (ℕ_discrete k i)
   where
     go : (d : Dec (k ≡ i)) → elim d as (λ x. Slot) [ yes e ↦ s | no n ↦ S k ] ≡ S k
     go (yes e) = absurd (n e)
@@ -216,26 +216,26 @@ record Was (S : ℕ → Slot) (k : ℕ) (t : Slot) : Type 0 where
 was : {S : ℕ → Slot} {k : ℕ} {t : Slot} → t ≡ S k → Live t → Was S k t
 was e l = record { alive = ap (λ s. s.live) (sym e) ∙ l; from = ap (λ s. s.source) e; to = ap (λ s. s.target) e }
 
-single-was : {S T : ℕ → Slot} → ((k : ℕ) → Live (T k) → Was S k (T k)) → Single S → Single T
-single-was w single i j li lj e f =
+single_was : {S T : ℕ → Slot} → ((k : ℕ) → Live (T k) → Was S k (T k)) → Single S → Single T
+single_was w single i j li lj e f =
     let wi = w i li in
     let wj = w j lj in
     single i j wi.alive wj.alive (sym wi.from ∙ e ∙ wj.from) (sym wi.to ∙ f ∙ wj.to)
 
 removable : {E : ℕ → ℕ → Type 0} {S : ℕ → Slot} {m i j a b : ℕ} {P Q : Shape} (r : Reducing E S) → Between S m i j a b P Q → Removable E r.taken m
 removable {S = S} {m = m} {i = i} {j = j} r c =
-    (slots-removable r.reduced r.single (fits-as r.reduced c.into refl).target_left).0 (
-      record { value = i; holds = (ap (λ s. s.live) c.into, ap (λ s. s.target) c.into); alone = λ k h. c.only-in k h.0 h.1 },
+    (slots_removable r.reduced r.single (fits_as r.reduced c.into refl).target_left).0 (
+      record { value = i; holds = (ap (λ s. s.live) c.into, ap (λ s. s.target) c.into); alone = λ k h. c.only_in k h.0 h.1 },
       record { value = j; holds = (ap (λ s. s.live) c.out, ap (λ s. s.source) c.out); alone = λ k h. c.only_out k h.0 h.1 },
     )
 
 -- Every step keeps what holds of the slots.
 pub step_keeps : {E : ℕ → ℕ → Type 0} {S T : ℕ → Slot} {m : ℕ} → LoopFree E → Step S m T → Reducing E S → Reducing E T
-step_keeps {E} {S} {T} {m} loop-free (alone {i = i} {j = j} {a = a} {b = b} {P = P} {Q = Q} c none t) r =
+step_keeps {E} {S} {T} {m} loop_free (alone {i = i} {j = j} {a = a} {b = b} {P = P} {Q = Q} c none t) r =
     record {
       taken = m ∷ r.taken;
-      order = takes-more r.order (removable r c);
-      reduced = series-merge r.reduced loop-free c t;
+      order = takes_more r.order (removable r c);
+      reduced = series_merge r.reduced loop_free c t;
       single = λ k n lk ln e f. single k n (origin t k lk) (origin t n ln) lk ln e f;
     }
   where
@@ -255,12 +255,12 @@ step_keeps {E} {S} {T} {m} loop-free (alone {i = i} {j = j} {a = a} {b = b} {P =
         let wk = was {S = S} {k = k} p lk in
         let wn = was {S = S} {k = n} q ln in
         r.single k n wk.alive wn.alive (sym wk.from ∙ x ∙ wn.from) (sym wk.to ∙ y ∙ wn.to)
-step_keeps {E} {S} {T} {m} loop-free (onto {i = i} {j = j} {l = l} {a = a} {b = b} {P = P} {Q = Q} {O = O} c there now in-gone out-gone kept) r =
+step_keeps {E} {S} {T} {m} loop_free (onto {i = i} {j = j} {l = l} {a = a} {b = b} {P = P} {Q = Q} {O = O} c there now in_gone out_gone kept) r =
     record {
       taken = m ∷ r.taken;
-      order = takes-more r.order (removable r c);
-      reduced = parallel-merge (series-merge r.reduced loop-free c first-merged) l-off-i (before l l-off-i l-off-j ∙ there) (put-at i s (put j (T j) S)) then-merged;
-      single = single-was (λ k lk. comes k lk (ℕ_discrete k i) (ℕ_discrete k j) (ℕ_discrete k l)) r.single;
+      order = takes_more r.order (removable r c);
+      reduced = parallel_merge (series_merge r.reduced loop_free c first_merged) l_off_i (before l l_off_i l_off_j ∙ there) (put_at i s (put j (T j) S)) then_merged;
+      single = single_was (λ k lk. comes k lk (ℕ_discrete k i) (ℕ_discrete k j) (ℕ_discrete k l)) r.single;
     }
   where
     s : Slot
@@ -271,52 +271,52 @@ step_keeps {E} {S} {T} {m} loop-free (onto {i = i} {j = j} {l = l} {a = a} {b = 
     U = put i s (put j (T j) S)
 
     before : (k : ℕ) → k ≢ i → k ≢ j → U k ≡ S k
-    before k n o = put-off i s (put j (T j) S) k n ∙ put-off j (T j) S k o
+    before k n o = put_off i s (put j (T j) S) k n ∙ put_off j (T j) S k o
 
-    l-off-i : l ≢ i
-    l-off-i e = out-differ r.reduced loop-free c (ap (λ s. s.target) (sym c.into ∙ ap S (sym e) ∙ there))
+    l_off_i : l ≢ i
+    l_off_i e = out_differ r.reduced loop_free c (ap (λ s. s.target) (sym c.into ∙ ap S (sym e) ∙ there))
 
-    l-off-j : l ≢ j
-    l-off-j e = in-differ r.reduced loop-free c (ap (λ s. s.source) (sym there ∙ ap S e ∙ c.out))
+    l_off_j : l ≢ j
+    l_off_j e = in_differ r.reduced loop_free c (ap (λ s. s.source) (sym there ∙ ap S e ∙ c.out))
 
-    i-off-j : i ≢ j
-    i-off-j e = in-differ r.reduced loop-free c (ap (λ s. s.source) (sym c.into ∙ ap S e ∙ c.out))
+    i_off_j : i ≢ j
+    i_off_j e = in_differ r.reduced loop_free c (ap (λ s. s.source) (sym c.into ∙ ap S e ∙ c.out))
 
     at_j : U j ≡ T j
-    at_j = put-off i s (put j (T j) S) j (λ e. i-off-j (sym e)) ∙ put-at j (T j) S
+    at_j = put_off i s (put j (T j) S) j (λ e. i_off_j (sym e)) ∙ put_at j (T j) S
 
-    first-merged : Merged S i j s U
-    first-merged = record { joined = put-at i s (put j (T j) S); gone = λ l. out-gone (ap (λ s. s.live) (sym at_j) ∙ l); kept = before }
+    first_merged : Merged S i j s U
+    first_merged = record { joined = put_at i s (put j (T j) S); gone = λ l. out_gone (ap (λ s. s.live) (sym at_j) ∙ l); kept = before }
 
-    then-merged : Merged U l i (slot a (parallel O (series P m Q)) b) T
-    then-merged = record { joined = now; gone = in-gone; kept = λ k n o. others k n o (ℕ_discrete k j) }
+    then_merged : Merged U l i (slot a (parallel O (series P m Q)) b) T
+    then_merged = record { joined = now; gone = in_gone; kept = λ k n o. others k n o (ℕ_discrete k j) }
       where
         others : (k : ℕ) → k ≢ l → k ≢ i → Dec (k ≡ j) → T k ≡ U k
         others k n o (yes e) = ap T e ∙ sym at_j ∙ ap U (sym e)
         others k n o (no p) = kept k o p n ∙ sym (before k o p)
 
     comes : (k : ℕ) → Live (T k) → Dec (k ≡ i) → Dec (k ≡ j) → Dec (k ≡ l) → Was S k (T k)
-    comes k lk (yes e) d f = absurd (in-gone (subst (λ z. Live (T z)) e lk))
-    comes k lk (no n) (yes e) f = absurd (out-gone (subst (λ z. Live (T z)) e lk))
+    comes k lk (yes e) d f = absurd (in_gone (subst (λ z. Live (T z)) e lk))
+    comes k lk (no n) (yes e) f = absurd (out_gone (subst (λ z. Live (T z)) e lk))
     comes k lk (no n) (no o) (no p) = was {S = S} {k = k} (kept k n o p) lk
     comes k lk (no n) (no o) (yes e) = subst (λ z. Was S z (T z)) (sym e) (record { alive = ap (λ s. s.live) there; from = ap (λ s. s.source) now ∙ ap (λ s. s.source) (sym there); to = ap (λ s. s.target) now ∙ ap (λ s. s.target) (sym there) })
 
 -- A step makes no slot live, and one slot dead.
 pub record Shrinks (S T : ℕ → Slot) : Type 0 where
-  pub none-new : (k : ℕ) → Live (T k) → Live (S k)
+  pub none_new : (k : ℕ) → Live (T k) → Live (S k)
   pub lost : ℕ
-  pub lost-live : Live (S lost)
-  pub lost-gone : ¬ (Live (T lost))
+  pub lost_live : Live (S lost)
+  pub lost_gone : ¬ (Live (T lost))
 
 pub shrinks : {S T : ℕ → Slot} {m : ℕ} → Step S m T → Shrinks S T
 shrinks {S} {T} {m} (alone {i = i} {j = j} {a = a} {b = b} {P = P} {Q = Q} c none t) =
-    record { none-new = λ k l. go k l (origin t k l); lost = j; lost-live = ap (λ s. s.live) c.out; lost-gone = t.gone }
+    record { none_new = λ k l. go k l (origin t k l); lost = j; lost_live = ap (λ s. s.live) c.out; lost_gone = t.gone }
   where
     go : (k : ℕ) → Live (T k) → Origin S i j (slot a (series P m Q) b) k (T k) → Live (S k)
     go k l (joint e p) = ap (λ n. (S n).live) e ∙ ap (λ s. s.live) c.into
     go k l (old n o p) = ap (λ s. s.live) (sym p) ∙ l
-shrinks {S} {T} {m} (onto {i = i} {j = j} {l = l} c there now in-gone out-gone kept) =
-    record { none-new = λ k lk. go k lk (ℕ_discrete k i) (ℕ_discrete k j) (ℕ_discrete k l); lost = j; lost-live = ap (λ s. s.live) c.out; lost-gone = out-gone }
+shrinks {S} {T} {m} (onto {i = i} {j = j} {l = l} c there now in_gone out_gone kept) =
+    record { none_new = λ k lk. go k lk (ℕ_discrete k i) (ℕ_discrete k j) (ℕ_discrete k l); lost = j; lost_live = ap (λ s. s.live) c.out; lost_gone = out_gone }
   where
     go : (k : ℕ) → Live (T k) → Dec (k ≡ i) → Dec (k ≡ j) → Dec (k ≡ l) → Live (S k)
     go k lk (yes e) d f = ap (λ n. (S n).live) e ∙ ap (λ s. s.live) c.into
@@ -329,25 +329,25 @@ bit_le false c h = omega arith
 bit_le true true h = omega arith
 bit_le true false h = absurd (false≢true (h refl))
 
-bit-lt : (b c : Bool) → ¬ (b ≡ true) → c ≡ true → cond {A = ℕ} b 1 0 < cond {A = ℕ} c 1 0
-bit-lt true c n e = absurd (n refl)
-bit-lt false true n e = omega arith
-bit-lt false false n e = absurd (false≢true e)
+bit_lt : (b c : Bool) → ¬ (b ≡ true) → c ≡ true → cond {A = ℕ} b 1 0 < cond {A = ℕ} c 1 0
+bit_lt true c n e = absurd (n refl)
+bit_lt false true n e = omega arith
+bit_lt false false n e = absurd (false≢true e)
 
-count-le : (S T : ℕ → Slot) (n : ℕ) → ((k : ℕ) → Live (T k) → Live (S k)) → live-count n T ≤ live-count n S
-unfolding live-count
-count-le S T zero h = omega arith
-count-le S T (suc n) h = omega (arith, bit_le (T n).live (S n).live (h n), count-le S T n h)
+count_le : (S T : ℕ → Slot) (n : ℕ) → ((k : ℕ) → Live (T k) → Live (S k)) → live_count n T ≤ live_count n S
+unfolding live_count
+count_le S T zero h = omega arith
+count_le S T (suc n) h = omega (arith, bit_le (T n).live (S n).live (h n), count_le S T n h)
 
-pub count-lt : (S T : ℕ → Slot) (n j : ℕ) → j < n → Live (S j) → ¬ (Live (T j)) → ((k : ℕ) → Live (T k) → Live (S k)) → live-count n T < live-count n S
-unfolding live-count
-count-lt S T zero j b l d h = absurd (omega arith)
-count-lt S T (suc n) j b l d h = go (ℕ_discrete j n) (λ o. count-lt S T n j o l d h)
+pub count_lt : (S T : ℕ → Slot) (n j : ℕ) → j < n → Live (S j) → ¬ (Live (T j)) → ((k : ℕ) → Live (T k) → Live (S k)) → live_count n T < live_count n S
+unfolding live_count
+count_lt S T zero j b l d h = absurd (omega arith)
+count_lt S T (suc n) j b l d h = go (ℕ_discrete j n) (λ o. count_lt S T n j o l d h)
   where
-    go : Dec (j ≡ n) → (j < n → live-count n T < live-count n S) → live-count (suc n) T < live-count (suc n) S
-    go (yes e) below = omega (arith, bit-lt (T n).live (S n).live (λ x. d (ap (λ k. (T k).live) e ∙ x)) (ap (λ k. (S k).live) (sym e) ∙ l), count-le S T n h)
+    go : Dec (j ≡ n) → (j < n → live_count n T < live_count n S) → live_count (suc n) T < live_count (suc n) S
+    go (yes e) below = omega (arith, bit_lt (T n).live (S n).live (λ x. d (ap (λ k. (T k).live) e ∙ x)) (ap (λ k. (S k).live) (sym e) ∙ l), count_le S T n h)
     go (no o) below = omega (arith, bit_le (T n).live (S n).live (h n), below (omega arith))
 
 -- The live slots fall: n counts all of them.
-pub step-shrinks : {S T : ℕ → Slot} {m : ℕ} (n : ℕ) → ((k : ℕ) → Live (S k) → k < n) → Step S m T → live-count n T < live-count n S
-step-shrinks {S} {T} n all s = let h = shrinks s in count-lt S T n h.lost (all h.lost h.lost-live) h.lost-live h.lost-gone h.none-new
+pub step_shrinks : {S T : ℕ → Slot} {m : ℕ} (n : ℕ) → ((k : ℕ) → Live (S k) → k < n) → Step S m T → live_count n T < live_count n S
+step_shrinks {S} {T} n all s = let h = shrinks s in count_lt S T n h.lost (all h.lost h.lost_live) h.lost_live h.lost_gone h.none_new

@@ -8,15 +8,15 @@ use Rattle.parts.specs.Slots.{Slot, Live, Carries}
 -- the slot holds a part of the block whose ends are left and whose inside is taken away
 pub record Fits (E : ℕ → ℕ → Type 0) (R : List ℕ) (s : Slot) : Type 0 where
   pub part : Part s.source s.target s.shape
-  pub source-left : Left R s.source
+  pub source_left : Left R s.source
   pub target_left : Left R s.target
-  pub inside-gone : (g : ℕ) → Inside s.shape g → Memᴰ g R
+  pub inside_gone : (g : ℕ) → Inside s.shape g → Memᴰ g R
   pub wires : (x y : ℕ) → Carries s x y → E x y
 
 -- two slots share no gate inside and no wire
 pub record Apart (s t : Slot) : Type 0 where
-  pub no-gate : (g : ℕ) → Inside s.shape g → Inside t.shape g → ⊥
-  pub no-wire : (x y : ℕ) → Carries s x y → Carries t x y → ⊥
+  pub no_gate : (g : ℕ) → Inside s.shape g → Inside t.shape g → ⊥
+  pub no_wire : (x y : ℕ) → Carries s x y → Carries t x y → ⊥
 
 -- the live slots S hold the block when the gates R are taken away
 pub record Reduced (E : ℕ → ℕ → Type 0) (R : List ℕ) (S : ℕ → Slot) : Type 0 where

@@ -27,10 +27,10 @@ pub record Nodes : Type 0 where
   pub rights : List ℕ
 
 -- kind 0 is a wire, 1 a series node, any other a parallel node
-abbrev pub node-tree : ℕ → Tree → ℕ → Tree → Tree
-node-tree zero P m Q = leaf m
-node-tree (suc zero) P m Q = chain P m Q
-node-tree (suc (suc k)) P m Q = beside P Q
+abbrev pub node_tree : ℕ → Tree → ℕ → Tree → Tree
+node_tree zero P m Q = leaf m
+node_tree (suc zero) P m Q = chain P m Q
+node_tree (suc (suc k)) P m Q = beside P Q
 
 -- the trees of the nodes below n: node j's, if j is below n
 unfoldable pub below : Nodes → ℕ → ℕ → Tree
@@ -38,7 +38,7 @@ below N zero j = leaf 0
 below N (suc n) j =
     elim (ltb j n) [
       | true ↦ below N n j
-      | false ↦ node-tree (get_or N.kinds n 0) (below N n (get_or N.lefts n 0)) (get_or N.gates n 0) (below N n (get_or N.rights n 0))
+      | false ↦ node_tree (get_or N.kinds n 0) (below N n (get_or N.lefts n 0)) (get_or N.gates n 0) (below N n (get_or N.rights n 0))
     ]
 
 -- the tree whose root is node i

@@ -10,7 +10,7 @@ pub record Rooted (B : Block) (T : Nodes) (t c : ℕ) : Type 0 where
   pub weighed : Weighed B.wires (first B) (last B) (tree_of T t)
   pub below : t < c
   pub children : (j : ℕ) → j < c → (get_or T.kinds j 0 ≡ 0) ⊎ ((get_or T.lefts j 0 < j) × (get_or T.rights j 0 < j))
-  pub kinds-long : c ≤ length T.kinds
-  pub lefts-long : c ≤ length T.lefts
-  pub gates-long : c ≤ length T.gates
-  pub rights-long : c ≤ length T.rights
+  pub kinds_long : c ≤ length T.kinds
+  pub lefts_long : c ≤ length T.lefts
+  pub gates_long : c ≤ length T.gates
+  pub rights_long : c ≤ length T.rights

@@ -32,13 +32,13 @@ abbrev pub slots : List Slot → ℕ → Slot
 slots L i = get_or L i empty
 
 -- a slot for each wire
-unfoldable pub wire-slots : List Wire → List Slot
-wire-slots [] = []
-wire-slots (w ∷ ws) = slot w.source wire w.target ∷ wire-slots ws
+unfoldable pub wire_slots : List Wire → List Slot
+wire_slots [] = []
+wire_slots (w ∷ ws) = slot w.source wire w.target ∷ wire_slots ws
 
 -- at first every wire of the block is left
 abbrev pub initial : List Wire → ℕ → Slot
-initial ws = slots (wire-slots ws)
+initial ws = slots (wire_slots ws)
 
 -- exactly one live slot leads to gate m
 abbrev pub OneIn : (ℕ → Slot) → ℕ → Type 0
@@ -52,7 +52,7 @@ OneOut S m = Only (λ i. Live (S i) × ((S i).source ≡ m))
 pub record Between (S : ℕ → Slot) (m i j a b : ℕ) (P Q : Shape) : Type 0 where
   pub into : S i ≡ slot a P m
   pub out : S j ≡ slot m Q b
-  pub only-in : (k : ℕ) → Live (S k) → (S k).target ≡ m → k ≡ i
+  pub only_in : (k : ℕ) → Live (S k) → (S k).target ≡ m → k ≡ i
   pub only_out : (k : ℕ) → Live (S k) → (S k).source ≡ m → k ≡ j
 
 -- In T the two slots i and j of S have become one, s at i.
@@ -84,9 +84,9 @@ abbrev pub Finished : (ℕ → Slot) → ℕ → ℕ → Type 0
 Finished S a b = (m : ℕ) → m ≢ a → m ≢ b → OneIn S m → OneOut S m → ⊥
 
 -- how many of the first n slots are live
-unfoldable pub live-count : ℕ → (ℕ → Slot) → ℕ
-live-count zero S = 0
-live-count (suc n) S = cond (S n).live 1 0 + live-count n S
+unfoldable pub live_count : ℕ → (ℕ → Slot) → ℕ
+live_count zero S = 0
+live_count (suc n) S = cond (S n).live 1 0 + live_count n S
 
 -- no live slot leads from a gate to itself
 abbrev pub Straight : (ℕ → Slot) → Type 0

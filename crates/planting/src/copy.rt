@@ -1,8 +1,8 @@
 // A tree copied from node arrays into the words of a tree, an occurrence of a node a new node.
 ghost use Rattle.std.specs.Prelude.{◌≡◌, ◌+◌};
 ghost use Rattle.parts.specs.Nodes.{tree_of};
-ghost use Rattle.planting.specs.Copy.{nodes-in, nodes-of, copied, Readable, Room};
-ghost use Rattle.planting.specs.TreeWords.{plot-of};
+ghost use Rattle.planting.specs.Copy.{nodes_in, nodes_of, copied, Readable, Room};
+ghost use Rattle.planting.specs.TreeWords.{plot_of};
 
 use crate::ReducedNumbers;
 use crate::node::{index, write_leaf, write_parent};
@@ -18,10 +18,10 @@ pub(crate) fn copy(
     tree: &mut TreeWords,
     c: usize,
 ) -> usize
-    requires readable { Readable (nodes-in kind.now left.now gate.now right.now) i }
-    requires room { Room (plot-of tree.old) (c + nodes-of (tree_of (nodes-in kind.now left.now gate.now right.now) i)) }
-    ensures count { result ≡ c + nodes-of (tree_of (nodes-in kind.now left.now gate.now right.now) i) }
-    ensures written { plot-of tree.new ≡ copied (tree_of (nodes-in kind.now left.now gate.now right.now) i) c (plot-of tree.old) }
+    requires readable { Readable (nodes_in kind.now left.now gate.now right.now) i }
+    requires room { Room (plot_of tree.old) (c + nodes_of (tree_of (nodes_in kind.now left.now gate.now right.now) i)) }
+    ensures count { result ≡ c + nodes_of (tree_of (nodes_in kind.now left.now gate.now right.now) i) }
+    ensures written { plot_of tree.new ≡ copied (tree_of (nodes_in kind.now left.now gate.now right.now) i) c (plot_of tree.old) }
 {
     if kind[i] == 0 {
         write_leaf(tree, c, gate[i]);

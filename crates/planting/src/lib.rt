@@ -5,9 +5,9 @@ pub mod tree_words;
 
 ghost use Rattle.std.specs.Prelude.{◌≡◌, ◌+◌};
 ghost use Rattle.parts.specs.Nodes.{tree_of};
-ghost use Rattle.planting.specs.Copy.{nodes-in, nodes-of, planted-in, Readable, Room};
+ghost use Rattle.planting.specs.Copy.{nodes_in, nodes_of, planted_in, Readable, Room};
 ghost use Rattle.planting.specs.Planted.{Planted, whole, lone};
-ghost use Rattle.planting.specs.TreeWords.{plot-of, nodes-held};
+ghost use Rattle.planting.specs.TreeWords.{plot_of, nodes_held};
 
 use copy::copy;
 use model::limits::{MAX_GATES, MAX_WIRES};
@@ -35,12 +35,12 @@ pub fn plant(
     right: &ReducedNumbers,
     tree: &mut TreeWords,
 ) -> usize
-    requires readable { Readable (nodes-in kind.now left.now gate.now right.now) i }
-    requires room { Room (plot-of tree.old) (nodes-of (whole a (tree_of (nodes-in kind.now left.now gate.now right.now) i) b)) }
-    ensures count { result ≡ nodes-of (whole a (tree_of (nodes-in kind.now left.now gate.now right.now) i) b) }
-    ensures planted { Planted (whole a (tree_of (nodes-in kind.now left.now gate.now right.now) i) b) result (plot-of tree.new) }
-    ensures written { plot-of tree.new ≡ planted-in (whole a (tree_of (nodes-in kind.now left.now gate.now right.now) i) b) (plot-of tree.old) }
-    ensures held { nodes-held tree.new ≡ result }
+    requires readable { Readable (nodes_in kind.now left.now gate.now right.now) i }
+    requires room { Room (plot_of tree.old) (nodes_of (whole a (tree_of (nodes_in kind.now left.now gate.now right.now) i) b)) }
+    ensures count { result ≡ nodes_of (whole a (tree_of (nodes_in kind.now left.now gate.now right.now) i) b) }
+    ensures planted { Planted (whole a (tree_of (nodes_in kind.now left.now gate.now right.now) i) b) result (plot_of tree.new) }
+    ensures written { plot_of tree.new ≡ planted_in (whole a (tree_of (nodes_in kind.now left.now gate.now right.now) i) b) (plot_of tree.old) }
+    ensures held { nodes_held tree.new ≡ result }
 {
     write_leaf(tree, 0, 0);
     let l = copy(i, kind, left, gate, right, tree, 1);
@@ -53,11 +53,11 @@ pub fn plant(
 
 // Plants gate g alone. Answers the number of nodes; the top is the last. Nodes beyond are as before.
 pub fn plant_lone(g: u32, tree: &mut TreeWords) -> usize
-    requires { Room (plot-of tree.old) 3 }
+    requires { Room (plot_of tree.old) 3 }
     ensures count { result ≡ 3 }
-    ensures planted { Planted (lone g) result (plot-of tree.new) }
-    ensures written { plot-of tree.new ≡ planted-in (lone g) (plot-of tree.old) }
-    ensures held { nodes-held tree.new ≡ result }
+    ensures planted { Planted (lone g) result (plot_of tree.new) }
+    ensures written { plot_of tree.new ≡ planted_in (lone g) (plot_of tree.old) }
+    ensures held { nodes_held tree.new ≡ result }
 {
     write_leaf(tree, 0, 0);
     write_leaf(tree, 1, 0);

@@ -1,8 +1,8 @@
 // The printout of a well-formed file's block, which is in the arrays.
 ghost use Rattle.std.specs.Prelude.{List, ℕ, ◌≤◌, length};
-ghost use Rattle.blockfile.specs.Held.{gate-arrays, wire-arrays};
+ghost use Rattle.blockfile.specs.Held.{gate_arrays, wire_arrays};
 ghost use Rattle.loading.specs.HeldFile.{HeldFile};
-ghost use Rattle.blocktext.specs.Shown.{printout-room};
+ghost use Rattle.blocktext.specs.Shown.{printout_room};
 ghost use Rattle.printing.specs.PrintoutIn.{Printed};
 
 use answers::best_lines::best_held;
@@ -29,9 +29,9 @@ pub fn print_held(
     order: &[u32],
     out: &mut [u8],
 ) -> usize
-    requires by_index { (file : List ℕ) × HeldFile file n m arrival deadline activity (gate-arrays delays.now activities.now counts.now step_widths.now drops.now) (wire-arrays sources.now targets.now wire_delays.now) order.now }
-    requires printout_room_in_bounds { printout-room ≤ length out.old }
-    ensures { (file : List ℕ) → HeldFile file n m arrival deadline activity (gate-arrays delays.now activities.now counts.now step_widths.now drops.now) (wire-arrays sources.now targets.now wire_delays.now) order.now → Printed file out.old out.new result }
+    requires by_index { (file : List ℕ) × HeldFile file n m arrival deadline activity (gate_arrays delays.now activities.now counts.now step_widths.now drops.now) (wire_arrays sources.now targets.now wire_delays.now) order.now }
+    requires printout_room_in_bounds { printout_room ≤ length out.old }
+    ensures { (file : List ℕ) → HeldFile file n m arrival deadline activity (gate_arrays delays.now activities.now counts.now step_widths.now drops.now) (wire_arrays sources.now targets.now wire_delays.now) order.now → Printed file out.old out.new result }
 {
     let mut increases = [0u32; MAX_GATES];
     let best = best_held(

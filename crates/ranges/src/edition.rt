@@ -2,7 +2,7 @@
 // Public for `faults` and `blockfile` alone.
 ghost use Rattle.std.specs.Prelude.{◌≡◌, length};
 ghost use Rattle.model.specs.Activity.{activities};
-ghost use Rattle.model.specs.Edition.{wire-bytes, delay-in, max-switching, activity-of};
+ghost use Rattle.model.specs.Edition.{wire_bytes, delay_in, max_switching, activity_of};
 
 use fields::field::number_at;
 use model::activity::{ActivityTable, activity_in};
@@ -24,15 +24,15 @@ const MAX_ACTIVITY: u32 = 65535;
 
 // The bytes of a wire's body: its two gates, then its delay.
 pub fn wire_bytes(edition: u8) -> usize
-    ensures { result ≡ wire-bytes edition }
+    ensures { result ≡ wire_bytes edition }
 {
     if edition < WIRE_DELAYS { 2 } else { 4 }
 }
 
 // The delay of a wire by its body.
 pub fn wire_delay(edition: u8, body: &[u8]) -> u32
-    requires { length body.now ≡ wire-bytes edition }
-    ensures { result ≡ delay-in edition body.now }
+    requires { length body.now ≡ wire_bytes edition }
+    ensures { result ≡ delay_in edition body.now }
 {
     if edition < WIRE_DELAYS {
         return 0;
@@ -42,7 +42,7 @@ pub fn wire_delay(edition: u8, body: &[u8]) -> u32
 
 // The greatest number for a net's switching: a probability or an activity.
 pub fn max_switching(edition: u8) -> u32
-    ensures { result ≡ max-switching edition }
+    ensures { result ≡ max_switching edition }
 {
     if ACTIVITIES <= edition {
         MAX_ACTIVITY
@@ -54,7 +54,7 @@ pub fn max_switching(edition: u8) -> u32
 // The activity of a net by the number for its switching.
 pub fn activity_of(edition: u8, switching: u32, table: &ActivityTable) -> u32
     requires { table.now ≡ activities }
-    ensures { result ≡ activity-of edition switching }
+    ensures { result ≡ activity_of edition switching }
 {
     if edition < ACTIVITIES {
         return activity_in(table, switching);

@@ -1,8 +1,8 @@
 // Tags, lengths and ranges of the fields. They stand here and nowhere else in the code, but for what differs by edition (`edition`) and the numbers of gates, steps and wires (`model::limits`).
 // Public for `faults` and `blockfile` alone.
 ghost use Rattle.std.specs.Prelude.{◌≡◌, true, [], ℕ, ◌+◌, ◌*◌, ◌≤◌, ◌%◌, length};
-ghost use Rattle.model.specs.Edition.{wire-bytes};
-ghost use Rattle.model.specs.File.{block, gate, wire, tag_of, length-fits, says, in-range, step-in-range, every, steps-in, falls};
+ghost use Rattle.model.specs.Edition.{wire_bytes};
+ghost use Rattle.model.specs.File.{block, gate, wire, tag_of, length_fits, says, in_range, step_in_range, every, steps_in, falls};
 ghost use Rattle.ranges.specs.Kinds.{kind, step_of};
 
 use crate::edition::{MAX_EDITION, max_switching, wire_bytes, wire_delay};
@@ -47,7 +47,7 @@ pub fn tag_of(due: Due) -> u8
 
 // Whether a gate's body can have this length, in any edition.
 pub fn gate_length_fits(length: usize) -> bool
-    ensures { (edition : ℕ) → result ≡ length-fits (gate edition) length }
+    ensures { (edition : ℕ) → result ≡ length_fits (gate edition) length }
 {
     if length < GATE_BYTES {
         return false;
@@ -60,7 +60,7 @@ pub fn gate_length_fits(length: usize) -> bool
 
 // Whether the body of what is due can have this length.
 pub fn length_fits(due: Due, length: usize) -> bool
-    ensures { result ≡ length-fits (kind due) length }
+    ensures { result ≡ length_fits (kind due) length }
 {
     match due {
         Due::Block => length == BLOCK_BYTES,
@@ -72,7 +72,7 @@ pub fn length_fits(due: Due, length: usize) -> bool
 // Whether every number of a block's body is in its range. Arrival and deadline are so by their two bytes.
 pub fn block_in_range(body: &[u8]) -> bool
     requires { length body.now ≡ 8 }
-    ensures { result ≡ in-range block (says block body.now) }
+    ensures { result ≡ in_range block (says block body.now) }
 {
     if body[0] < 1 {
         return false;
@@ -92,7 +92,7 @@ pub fn block_in_range(body: &[u8]) -> bool
 // Whether step j has a width and a drop in their ranges.
 pub fn step_in_range(steps: &[u8], j: usize) -> bool
     requires { 4 * j + 4 ≤ length steps.now }
-    ensures { result ≡ step-in-range (step_of steps.now j) }
+    ensures { result ≡ step_in_range (step_of steps.now j) }
 {
     let width = number_at(steps, STEP_BYTES * j);
     let drop = number_at(steps, STEP_BYTES * j + 2);
@@ -111,7 +111,7 @@ pub fn step_in_range(steps: &[u8], j: usize) -> bool
 // Whether every step has a width and a drop in their ranges.
 pub fn steps_in_range(steps: &[u8]) -> bool
     requires { length steps.now % 4 ≡ 0 }
-    ensures { result ≡ every step-in-range (steps-in steps.now) }
+    ensures { result ≡ every step_in_range (steps_in steps.now) }
 {
     let count = steps.len() / STEP_BYTES;
     let mut j = 0;
@@ -126,8 +126,8 @@ pub fn steps_in_range(steps: &[u8]) -> bool
 
 // Whether every number of a gate's body is in its range.
 pub fn gate_in_range(body: &[u8], edition: u8) -> bool
-    requires { length-fits (gate edition) (length body.now) ≡ true }
-    ensures { result ≡ in-range (gate edition) (says (gate edition) body.now) }
+    requires { length_fits (gate edition) (length body.now) ≡ true }
+    ensures { result ≡ in_range (gate edition) (says (gate edition) body.now) }
 {
     if MAX_DELAY < number_at(body, 0) {
         return false;
@@ -141,7 +141,7 @@ pub fn gate_in_range(body: &[u8], edition: u8) -> bool
 // Whether the drops of the steps fall strictly.
 pub fn drops_fall(steps: &[u8]) -> bool
     requires { length steps.now % 4 ≡ 0 }
-    ensures { result ≡ falls (steps-in steps.now) }
+    ensures { result ≡ falls (steps_in steps.now) }
 {
     let count = steps.len() / STEP_BYTES;
     let mut j = 1;
@@ -156,8 +156,8 @@ pub fn drops_fall(steps: &[u8]) -> bool
 
 // Whether a wire's body names two gates below the gate count, and a delay in its range.
 pub fn wire_in_range(body: &[u8], edition: u8, gates: u8) -> bool
-    requires { length body.now ≡ wire-bytes edition }
-    ensures { result ≡ in-range (wire edition gates []) (says (wire edition gates []) body.now) }
+    requires { length body.now ≡ wire_bytes edition }
+    ensures { result ≡ in_range (wire edition gates []) (says (wire edition gates []) body.now) }
 {
     if gates <= body[0] {
         return false;

@@ -6,62 +6,62 @@ use Prim.Native.Nat.{ℕ, ◌+◌, ◌^◌, ◌≤◌, ◌<◌}
 use native.Mathlib.Nat.{mul-le-mul_right}
 use native.Mathlib.Omega.{arith}
 use Rattle.lists.specs.Search.{Lowest}
-use Rattle.lists.proofs.Over.{mem-build}
-use Rattle.model.specs.Limits.{max-gain, max-ticks}
-use Rattle.model.specs.Curve.{Pair, all-ticks, count-off}
+use Rattle.lists.proofs.Over.{mem_build}
+use Rattle.model.specs.Limits.{max_gain, max_ticks}
+use Rattle.model.specs.Curve.{Pair, all_ticks, count_off}
 use Rattle.model.specs.InTime.{IsStart}
 use Rattle.model.specs.Slack.{start}
 use Rattle.model.specs.Ticks.{Fewest}
 use Rattle.model.specs.declared.CurveAnswer.TheVariants.{Given}
-use Rattle.model.specs.Answer.{accepted, refusal, well-formed, fits, passes, fewest, AnswersTicks}
-use Rattle.model.proofs.Limited.{BlockLimits, read-limits}
+use Rattle.model.specs.Answer.{accepted, refusal, well_formed, fits, passes, fewest, AnswersTicks}
+use Rattle.model.proofs.Limited.{BlockLimits, read_limits}
 use Rattle.model.proofs.Slack.{start_is}
-use Rattle.model.proofs.Ticks.{reached-by-curve, fewest-by-curve, fewest-small}
-use Rattle.ordering.proofs.Numbered.{sound-along}
-use Rattle.curve.specs.Position.{pair-at, pairs-in}
-use Rattle.curve.proofs.Earning.{count-off-most, fewer-earn-less}
+use Rattle.model.proofs.Ticks.{reached_by_curve, fewest_by_curve, fewest_small}
+use Rattle.ordering.proofs.Numbered.{sound_along}
+use Rattle.curve.specs.Position.{pair_at, pairs_in}
+use Rattle.curve.proofs.Earning.{count_off_most, fewer_earn_less}
 use Rattle.reaching.specs.CurveKnown.{CurveKnown}
 use Rattle.reaching.proofs.CurveLaws.{Known, known}
 
-module _ {file : List ℕ} {at-start : ℕ} {ps : List Pair} (k : Known file at-start ps) where
+module _ {file : List ℕ} {at_start : ℕ} {ps : List Pair} (k : Known file at_start ps) where
   limits : BlockLimits k.block
-  limits = read-limits file k.well.reads
+  limits = read_limits file k.well.reads
 
   starts : IsStart k.block (start k.block)
-  starts = start_is k.block k.well.network (sound-along limits k.well.network) limits.some-gate
+  starts = start_is k.block k.well.network (sound_along limits k.well.network) limits.some_gate
 
   -- 17: the whole curve stays below
-  pub ticks-beyond : {wanted : ℕ} → ((j : ℕ) → at-start + count-off ps j < wanted) → AnswersTicks file wanted (record { answer = refusal 17 0; memory = tt })
-  ticks-beyond {wanted} below =
-      well-formed k.block k.well
-      (passes (λ p n. n.0 k.fits) (fits 0 (refl, (k.fits, λ j r. omega (arith, below j, (reached-by-curve starts k.is-curve wanted j).0 r))) refl))
+  pub ticks_beyond : {wanted : ℕ} → ((j : ℕ) → at_start + count_off ps j < wanted) → AnswersTicks file wanted (record { answer = refusal 17 0; memory = tt })
+  ticks_beyond {wanted} below =
+      well_formed k.block k.well
+      (passes (λ p n. n.0 k.fits) (fits 0 (refl, (k.fits, λ j r. omega (arith, below j, (reached_by_curve starts k.is_curve wanted j).0 r))) refl))
 
-  module _ (wanted : ℕ) {ticks : ℕ} (lowest : Lowest (λ (j : ℕ). wanted ≤ at-start + count-off ps j) ticks) where
-    is-fewest : Fewest k.block wanted ticks
-    is-fewest = (fewest-by-curve starts k.is-curve wanted ticks).1 lowest
+  module _ (wanted : ℕ) {ticks : ℕ} (lowest : Lowest (λ (j : ℕ). wanted ≤ at_start + count_off ps j) ticks) where
+    is_fewest : Fewest k.block wanted ticks
+    is_fewest = (fewest_by_curve starts k.is_curve wanted ticks).1 lowest
 
     -- they fit 32 bits
-    pub ticks-few : ticks ≤ max-ticks
-    ticks-few = fewest-small limits k.well.network (sound-along limits k.well.network) is-fewest
+    pub ticks_few : ticks ≤ max_ticks
+    ticks_few = fewest_small limits k.well.network (sound_along limits k.well.network) is_fewest
 
-    pub ticks-given : AnswersTicks file wanted (record { answer = accepted (ticks ∷ []); memory = tt })
-    ticks-given =
-        well-formed k.block k.well
-        (passes (λ p n. n.0 k.fits) (passes (λ p u. u.1.1 ticks is-fewest.holds) (fewest ticks k.fits is-fewest refl)))
+    pub ticks_given : AnswersTicks file wanted (record { answer = accepted (ticks ∷ []); memory = tt })
+    ticks_given =
+        well_formed k.block k.well
+        (passes (λ p n. n.0 k.fits) (passes (λ p u. u.1.1 ticks is_fewest.holds) (fewest ticks k.fits is_fewest refl)))
 
   -- the ticks of the whole curve are the fewest for all that it earns ..
-  all-few : all-ticks ps ≤ max-ticks
-  all-few =
-      ticks-few (at-start + count-off ps (all-ticks ps))
-      (record { holds = omega arith; none_below = λ j l h. omega (arith, fewer-earn-less ps k.is-curve.falls j l) })
+  all_few : all_ticks ps ≤ max_ticks
+  all_few =
+      ticks_few (at_start + count_off ps (all_ticks ps))
+      (record { holds = omega arith; none_below = λ j l h. omega (arith, fewer_earn_less ps k.is_curve.falls j l) })
 
   -- .. which fits 64 bits
-  pub curve-fits : ((p : Pair) → Memᴰ p ps → p.gain ≤ max-gain) → count-off ps (all-ticks ps) < 2 ^ 64
-  curve-fits bound = omega (arith, count-off-most max-gain ps bound (all-ticks ps), mul-le-mul_right max-gain all-few)
+  pub curve_fits : ((p : Pair) → Memᴰ p ps → p.gain ≤ max_gain) → count_off ps (all_ticks ps) < 2 ^ 64
+  curve_fits bound = omega (arith, count_off_most max_gain ps bound (all_ticks ps), mul-le-mul_right max_gain all_few)
 
 -- so all that the pairs in the slices earn fits
-pub earnings-fit : {file ws gs : List ℕ} {s a n : ℕ} → CurveKnown file (Given s a n) ws gs → count-off (pairs-in n ws gs) (all-ticks (pairs-in n ws gs)) < 2 ^ 64
-earnings-fit {file} {ws} {gs} {s} {a} {n} k = curve-fits (known k) few
+pub earnings_fit : {file ws gs : List ℕ} {s a n : ℕ} → CurveKnown file (Given s a n) ws gs → count_off (pairs_in n ws gs) (all_ticks (pairs_in n ws gs)) < 2 ^ 64
+earnings_fit {file} {ws} {gs} {s} {a} {n} k = curve_fits (known k) few
   where
-    few : (p : Pair) → Memᴰ p (pairs-in n ws gs) → p.gain ≤ max-gain
-    few p m = let (i, l, e) = mem-build n (pair-at ws gs) m in rw e (k.bounds.1 i l)
+    few : (p : Pair) → Memᴰ p (pairs_in n ws gs) → p.gain ≤ max_gain
+    few p m = let (i, l, e) = mem_build n (pair_at ws gs) m in rw e (k.bounds.1 i l)

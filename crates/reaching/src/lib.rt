@@ -1,6 +1,6 @@
 // The fewest ticks for a wanted saving, from the outcome of the curve. For `resizing` alone.
 ghost use Rattle.std.specs.Prelude.{List, ℕ};
-ghost use Rattle.model.specs.Answer.{AnswersTicks, ticks-answer};
+ghost use Rattle.model.specs.Answer.{AnswersTicks, ticks_answer};
 ghost use Rattle.reaching.specs.CurveKnown.{CurveKnown};
 
 use curve::reach::{Reach, ticks_for};
@@ -9,7 +9,7 @@ use model::{CurveAnswer, Refusal, TicksAnswer};
 // The answer of the fewest ticks by that of the curve, whose pairs stand in front of the two slices: a refusal is passed on.
 pub fn ticks_on_curve(found: CurveAnswer, widths: &[u32], gains: &[u64], wanted: u64) -> TicksAnswer
     requires { (file : List ℕ) × CurveKnown file found widths.now gains.now }
-    ensures { (file : List ℕ) → CurveKnown file found widths.now gains.now → AnswersTicks file wanted (record { answer = ticks-answer result; memory = tt }) }
+    ensures { (file : List ℕ) → CurveKnown file found widths.now gains.now → AnswersTicks file wanted (record { answer = ticks_answer result; memory = tt }) }
 {
     match found {
         CurveAnswer::Refused(refusal) => TicksAnswer::Refused(refusal),

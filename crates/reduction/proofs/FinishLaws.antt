@@ -1,4 +1,4 @@
--- The end: what the answer says of the block (`root-answered`, `unfit-answered`, `lowest-answered`). Assumes nothing.
+-- The end: what the answer says of the block (`root_answered`, `unfit_answered`, `lowest_answered`). Assumes nothing.
 use mathlib.Core.Path.{◌≡◌, refl, sym, ◌∙◌, ap, subst, subst₂}
 use mathlib.Core.Logic.{inl, inr, ◌↔◌, ⊎_elim}
 use mathlib.Core.List.{List}
@@ -6,7 +6,7 @@ use Prim.Native.Nat.{ℕ, ◌+◌, ◌-◌, ◌≤◌, ◌<◌}
 use native.Mathlib.Omega.{arith}
 use lib.ListN.{length, get_or}
 use Rattle.lists.specs.Search.{Lowest}
-use Rattle.model.specs.Block.{Block, gate-count, first, last}
+use Rattle.model.specs.Block.{Block, gate_count, first, last}
 use Rattle.model.specs.Part.{Whole, SeriesParallel, built}
 use Rattle.model.specs.Remainder.{Remains}
 use Rattle.parts.specs.Reduction.{Only}
@@ -14,7 +14,7 @@ use Rattle.parts.specs.Slots.{Live, Finished}
 use Rattle.parts.specs.Network.{Network}
 use Rattle.parts.specs.Nodes.{Nodes, Weighed, tree_of}
 use Rattle.parts.specs.Rooted.{Rooted}
-use Rattle.parts.proofs.Verdict.{only-first, only-last, whole, verdict, lone-gate}
+use Rattle.parts.proofs.Verdict.{only_first, only_last, whole, verdict, lone_gate}
 use Rattle.parts.proofs.Remains as Remaining
 use Rattle.slots.specs.Sought.{OnlyLive, LowestLed}
 use Rattle.slots.specs.Picked.{Picked}
@@ -24,10 +24,10 @@ use Rattle.reduction.specs.Arrays.{Arrays, arrays, held, Room}
 use Rattle.reduction.specs.Going.{Going, Ended}
 use Rattle.reduction.specs.Answered.{Answered}
 use Rattle.reduction.specs.Wired.{Wired}
-use Rattle.reduction.proofs.Held.{held_in, held-live, held-alive, held-ends}
+use Rattle.reduction.proofs.Held.{held_in, held_live, held_alive, held_ends}
 
 -- room stays when lengths stay
-pub room-kept :
+pub room_kept :
     {k x : ℕ} {live from target top kind left gate right live' target' top' kind' gate' : List ℕ}
     → Room k x (arrays live from target top kind left gate right)
     → length live' ≡ length live
@@ -36,16 +36,16 @@ pub room-kept :
     → length kind' ≡ length kind
     → length gate' ≡ length gate
     → Room k x (arrays live' from target' top' kind' left gate' right)
-room-kept {k} {x} r a b c d e =
+room_kept {k} {x} r a b c d e =
     record {
-      live-room = subst (λ z. k ≤ z) (sym a) r.live-room;
-      from-room = r.from-room;
+      live_room = subst (λ z. k ≤ z) (sym a) r.live_room;
+      from_room = r.from_room;
       to_room = subst (λ z. k ≤ z) (sym b) r.to_room;
-      top-room = subst (λ z. k ≤ z) (sym c) r.top-room;
-      kind-room = subst (λ z. x ≤ z) (sym d) r.kind-room;
-      left-room = r.left-room;
-      gate-room = subst (λ z. x ≤ z) (sym e) r.gate-room;
-      right-room = r.right-room;
+      top_room = subst (λ z. k ≤ z) (sym c) r.top_room;
+      kind_room = subst (λ z. x ≤ z) (sym d) r.kind_room;
+      left_room = r.left_room;
+      gate_room = subst (λ z. x ≤ z) (sym e) r.gate_room;
+      right_room = r.right_room;
     }
 
 -- The answer.
@@ -57,17 +57,17 @@ module _ {N : Block} {n k c : ℕ} {A B : Arrays} (net : Network N) (begin : Goi
   finished = subst (λ z. Finished (held k B) 0 (z - 1)) (sym begin.gates) (end.stands N net begin).1
 
   module _ {i : ℕ} (ol : OnlyLive B.lives k i) where
-    pub root-answered : (i ≡ k → ⊥) → Rooted N B.tree (get_or B.tops i 0) c
-    root-answered d =
+    pub root_answered : (i ≡ k → ⊥) → Rooted N B.tree (get_or B.tops i 0) c
+    root_answered d =
         record {
           whole = subst (Whole N) (ap (λ s. s.shape) (held_in k B i inside)) (whole net going.reducing one);
-          weighed = subst₂ (λ x y. Weighed N.wires x y (tree_of B.tree (get_or B.tops i 0))) (sym ends.0 ∙ only-first net going.reducing one) (sym ends.1 ∙ only-last net going.reducing one) (going.formed.weighed i inside (ol.live inside));
-          below = going.formed.tops-below i inside;
+          weighed = subst₂ (λ x y. Weighed N.wires x y (tree_of B.tree (get_or B.tops i 0))) (sym ends.0 ∙ only_first net going.reducing one) (sym ends.1 ∙ only_last net going.reducing one) (going.formed.weighed i inside (ol.live inside));
+          below = going.formed.tops_below i inside;
           children = going.formed.children;
-          kinds-long = omega (arith, few, end.ready.room.kind-room);
-          lefts-long = omega (arith, few, end.ready.room.left-room);
-          gates-long = omega (arith, few, end.ready.room.gate-room);
-          rights-long = omega (arith, few, end.ready.room.right-room);
+          kinds_long = omega (arith, few, end.ready.room.kind_room);
+          lefts_long = omega (arith, few, end.ready.room.left_room);
+          gates_long = omega (arith, few, end.ready.room.gate_room);
+          rights_long = omega (arith, few, end.ready.room.right_room);
         }
       where
         few : c ≤ k + (n + n)
@@ -77,34 +77,34 @@ module _ {N : Block} {n k c : ℕ} {A B : Arrays} (net : Network N) (begin : Goi
         inside = let w = ol.within in omega arith
 
         ends : ((held k B i).source ≡ get_or B.froms i 0) × ((held k B i).target ≡ get_or B.tos i 0)
-        ends = held-ends k B i inside
+        ends = held_ends k B i inside
 
         one : Only (λ q. Live (held k B q))
-        one = record { value = i; holds = held-alive k B i inside (ol.live inside); alone = λ q l. let (h, v) = held-live k B q l in ol.only inside q h v }
+        one = record { value = i; holds = held_alive k B i inside (ol.live inside); alone = λ q l. let (h, v) = held_live k B q l in ol.only inside q h v }
 
-    pub unfit-answered : (n ≡ 1 → ⊥) → i ≡ k → ¬ (SeriesParallel N)
-    unfit-answered d e p =
+    pub unfit_answered : (n ≡ 1 → ⊥) → i ≡ k → ¬ (SeriesParallel N)
+    unfit_answered d e p =
         let o = (verdict net going.reducing (λ z. d (sym begin.gates ∙ z)) finished).1 p in
-        let (h, v) = held-live k B o.value o.holds in
-        ol.not-one e o.value h v (λ q l w. o.alone q (held-alive k B q l w))
+        let (h, v) = held_live k B o.value o.holds in
+        ol.not_one e o.value h v (λ q l w. o.alone q (held_alive k B q l w))
 
   -- the lowest gate to which a slot leads, by the slots that the arrays hold
-  held-led : {g : ℕ} → LowestLed B.lives B.tos k (n - 1) g → Remaining.LowestLed k (held k B) (last N) g
-  held-led low =
+  held_led : {g : ℕ} → LowestLed B.lives B.tos k (n - 1) g → Remaining.LowestLed k (held k B) (last N) g
+  held_led low =
       record {
         most = omega (arith, low.most, begin.gates);
-        none-less = λ i h l. rw (held-ends k B i h).1 (low.none-less i h (held-live k B i l).1);
-        reached = ⊎_elim (λ e. inl (omega (arith, begin.gates))) (λ (i, h, v, e). inr (i, h, held-alive k B i h v, (held-ends k B i h).1 ∙ e)) low.reached;
+        none_less = λ i h l. rw (held_ends k B i h).1 (low.none_less i h (held_live k B i l).1);
+        reached = ⊎_elim (λ e. inl (omega (arith, begin.gates))) (λ (i, h, v, e). inr (i, h, held_alive k B i h v, (held_ends k B i h).1 ∙ e)) low.reached;
       }
 
   -- and then it is the lowest that remains
-  pub lowest-answered : {g : ℕ} → ¬ (SeriesParallel N) → LowestLed B.lives B.tos k (n - 1) g → Lowest (Remains N) g
-  lowest-answered unfit low = Remaining.lowest-remains net going.reducing finished (λ i l. (held-live k B i l).0) unfit (held-led low)
+  pub lowest_answered : {g : ℕ} → ¬ (SeriesParallel N) → LowestLed B.lives B.tos k (n - 1) g → Lowest (Remains N) g
+  lowest_answered unfit low = Remaining.lowest_remains net going.reducing finished (λ i l. (held_live k B i l).0) unfit (held_led low)
 
-pub lone-answered : {N : Block} {n k : ℕ} {froms tos delays : List ℕ} → Network N → Wired N n k froms tos delays → n ≡ 1 → (gate-count N ≡ 1) × SeriesParallel N
-lone-answered net w e = (w.gates ∙ e, lone-gate net (w.gates ∙ e))
+pub lone_answered : {N : Block} {n k : ℕ} {froms tos delays : List ℕ} → Network N → Wired N n k froms tos delays → n ≡ 1 → (gate_count N ≡ 1) × SeriesParallel N
+lone_answered net w e = (w.gates ∙ e, lone_gate net (w.gates ∙ e))
 
-pub picked-answered :
+pub picked_answered :
     {N : Block} {n k c : ℕ} {A B : Arrays}
     → Network N
     → Going N n k k A
@@ -113,9 +113,9 @@ pub picked-answered :
     → (r : Answer)
     → Picked B.lives B.tos B.tops k c (n - 1) r
     → Answered N B.tree r
-picked-answered {N} {B = B} net go e d (Root t m) (i, ne, ol, f, g) = subst₂ (Rooted N B.tree) (sym f) (sym g) (root-answered net go e ol ne)
-picked-answered net go e d Lone p = absurd p
-picked-answered net go e d (Unfit g) (ol, low) = let unfit = unfit-answered net go e ol d refl in (unfit, lowest-answered net go e unfit low)
+picked_answered {N} {B = B} net go e d (Root t m) (i, ne, ol, f, g) = subst₂ (Rooted N B.tree) (sym f) (sym g) (root_answered net go e ol ne)
+picked_answered net go e d Lone p = absurd p
+picked_answered net go e d (Unfit g) (ol, low) = let unfit = unfit_answered net go e ol d refl in (unfit, lowest_answered net go e unfit low)
 
 -- accepted: any answer but "not series-parallel"
 abbrev pub Accepted : Answer → Type 0
@@ -124,7 +124,7 @@ Accepted Lone = Unit {0}
 Accepted (Unfit g) = ⊥
 
 -- Soundness and completeness of an answer in one: accepted exactly when series-parallel.
-pub accepted-iff : (B : Block) (T : Nodes) (r : Answer) → Answered B T r → Accepted r ↔ SeriesParallel B
-accepted-iff B T (Root t c) a = (λ u. built _ a.whole, λ p. tt)
-accepted-iff B T Lone a = (λ u. a.1, λ p. tt)
-accepted-iff B T (Unfit g) a = (absurd, a.0)
+pub accepted_iff : (B : Block) (T : Nodes) (r : Answer) → Answered B T r → Accepted r ↔ SeriesParallel B
+accepted_iff B T (Root t c) a = (λ u. built _ a.whole, λ p. tt)
+accepted_iff B T Lone a = (λ u. a.1, λ p. tt)
+accepted_iff B T (Unfit g) a = (absurd, a.0)

@@ -38,40 +38,40 @@ held k A i = held_at (ltb i k) A i
 
 -- k slots and c nodes stand in the arrays, with the delays of the wires ws.
 pub record Formed (ws : List Wire) (k c : ℕ) (A : Arrays) : Type 0 where
-  pub tops-below : (i : ℕ) → i < k → get_or A.tops i 0 < c
+  pub tops_below : (i : ℕ) → i < k → get_or A.tops i 0 < c
   pub children : (j : ℕ) → j < c → (get_or A.tree.kinds j 0 ≡ 0) ⊎ ((get_or A.tree.lefts j 0 < j) × (get_or A.tree.rights j 0 < j))
   pub weighed : (i : ℕ) → i < k → get_or A.lives i 0 ≡ 1 → Weighed ws (get_or A.froms i 0) (get_or A.tos i 0) (tree_of A.tree (get_or A.tops i 0))
 
 -- the arrays have room for k slots and c nodes
 pub record Room (k c : ℕ) (A : Arrays) : Type 0 where
-  pub live-room : k ≤ length A.lives
-  pub from-room : k ≤ length A.froms
+  pub live_room : k ≤ length A.lives
+  pub from_room : k ≤ length A.froms
   pub to_room : k ≤ length A.tos
-  pub top-room : k ≤ length A.tops
-  pub kind-room : c ≤ length A.tree.kinds
-  pub left-room : c ≤ length A.tree.lefts
-  pub gate-room : c ≤ length A.tree.gates
-  pub right-room : c ≤ length A.tree.rights
+  pub top_room : k ≤ length A.tops
+  pub kind_room : c ≤ length A.tree.kinds
+  pub left_room : c ≤ length A.tree.lefts
+  pub gate_room : c ≤ length A.tree.gates
+  pub right_room : c ≤ length A.tree.rights
 
 -- Of k slots, i is the only one that leads to gate m, and j the only one that leads from it.
 pub record Chosen (k : ℕ) (A : Arrays) (m i j : ℕ) : Type 0 where
-  pub in-slot : i < k
-  pub in-live : get_or A.lives i 0 ≡ 1
-  pub in-to : get_or A.tos i 0 ≡ m
-  pub in-only : (q : ℕ) → q < k → get_or A.lives q 0 ≡ 1 → get_or A.tos q 0 ≡ m → q ≡ i
-  pub out-slot : j < k
-  pub out-live : get_or A.lives j 0 ≡ 1
-  pub out-from : get_or A.froms j 0 ≡ m
-  pub out-only : (q : ℕ) → q < k → get_or A.lives q 0 ≡ 1 → get_or A.froms q 0 ≡ m → q ≡ j
+  pub in_slot : i < k
+  pub in_live : get_or A.lives i 0 ≡ 1
+  pub in_to : get_or A.tos i 0 ≡ m
+  pub in_only : (q : ℕ) → q < k → get_or A.lives q 0 ≡ 1 → get_or A.tos q 0 ≡ m → q ≡ i
+  pub out_slot : j < k
+  pub out_live : get_or A.lives j 0 ≡ 1
+  pub out_from : get_or A.froms j 0 ≡ m
+  pub out_only : (q : ℕ) → q < k → get_or A.lives q 0 ≡ 1 → get_or A.froms q 0 ≡ m → q ≡ j
 
 -- node c added
-abbrev pub add-node : ℕ → ℕ → ℕ → ℕ → ℕ → Nodes → Nodes
-add-node c kind left gate right N =
+abbrev pub add_node : ℕ → ℕ → ℕ → ℕ → ℕ → Nodes → Nodes
+add_node c kind left gate right N =
     record { kinds = set N.kinds c kind; lefts = set N.lefts c left; gates = set N.gates c gate; rights = set N.rights c right }
 
 -- the series node of slots i and j through gate m
-abbrev pub add-series : ℕ → ℕ → ℕ → ℕ → Arrays → Nodes
-add-series c m i j A = add-node c 1 (get_or A.tops i 0) m (get_or A.tops j 0) A.tree
+abbrev pub add_series : ℕ → ℕ → ℕ → ℕ → Arrays → Nodes
+add_series c m i j A = add_node c 1 (get_or A.tops i 0) m (get_or A.tops j 0) A.tree
 
 -- Gate m goes: slots i and j become one in i's place, of node c.
 unfoldable pub joined : ℕ → ℕ → ℕ → ℕ → Arrays → Arrays
@@ -81,31 +81,31 @@ joined c m i j A =
       froms = A.froms;
       tos = set A.tos i (get_or A.tos j 0);
       tops = set A.tops i c;
-      tree = add-series c m i j A;
+      tree = add_series c m i j A;
     }
 
 -- Gate m goes: slot l takes up slots i and j, of nodes c and, in parallel with its own, c + 1.
-unfoldable pub taken-up : ℕ → ℕ → ℕ → ℕ → ℕ → Arrays → Arrays
-taken-up c m i j l A =
+unfoldable pub taken_up : ℕ → ℕ → ℕ → ℕ → ℕ → Arrays → Arrays
+taken_up c m i j l A =
     record {
       lives = set (set A.lives i 0) j 0;
       froms = A.froms;
       tos = A.tos;
       tops = set A.tops l (c + 1);
-      tree = add-node (c + 1) 2 (get_or A.tops l 0) 0 c (add-series c m i j A);
+      tree = add_node (c + 1) 2 (get_or A.tops l 0) 0 c (add_series c m i j A);
     }
 
 -- Gate m has gone, from the arrays A with c nodes to the arrays B with r nodes.
 pub data Went (k c m i j : ℕ) (A B : Arrays) (r : ℕ) : Type 0 where
-  by-joining :
+  by_joining :
       ((q : ℕ) → q < k → ¬ (Leads A.lives A.froms A.tos (get_or A.froms i 0) (get_or A.tos j 0) q))
       → B ≡ joined c m i j A
       → r ≡ c + 1
       → Went k c m i j A B r
-  by-taking-up :
+  by_taking_up :
       (l : ℕ)
       → l < k
       → Leads A.lives A.froms A.tos (get_or A.froms i 0) (get_or A.tos j 0) l
-      → B ≡ taken-up c m i j l A
+      → B ≡ taken_up c m i j l A
       → r ≡ c + 2
       → Went k c m i j A B r

@@ -1,15 +1,15 @@
 -- The wires of a block in arrays, and the slots and leaves that the reduction lays out for them.
 use Rattle.std.specs.Prelude.{◌≡◌, List, ℕ, ◌<◌, length, get_or}
-use Rattle.model.specs.Block.{Block, gate-count}
-use Rattle.parts.specs.Network.{wire-at, Network}
+use Rattle.model.specs.Block.{Block, gate_count}
+use Rattle.parts.specs.Network.{wire_at, Network}
 
 -- the arrays hold the k wires of N, which has n gates
 pub record Wired (N : Block) (n k : ℕ) (froms tos delays : List ℕ) : Type 0 where
-  pub gates : gate-count N ≡ n
+  pub gates : gate_count N ≡ n
   pub count : length N.wires ≡ k
-  pub source : (i : ℕ) → i < k → get_or froms i 0 ≡ (wire-at N.wires i).source
-  pub target : (i : ℕ) → i < k → get_or tos i 0 ≡ (wire-at N.wires i).target
-  pub delay : (i : ℕ) → i < k → get_or delays i 0 ≡ (wire-at N.wires i).delay
+  pub source : (i : ℕ) → i < k → get_or froms i 0 ≡ (wire_at N.wires i).source
+  pub target : (i : ℕ) → i < k → get_or tos i 0 ≡ (wire_at N.wires i).target
+  pub delay : (i : ℕ) → i < k → get_or delays i 0 ≡ (wire_at N.wires i).delay
 
 -- the arrays hold the wires of some network
 pub record Given (n k : ℕ) (froms tos delays : List ℕ) : Type 0 where

@@ -4,7 +4,7 @@ mod take;
 mod turns;
 
 ghost use Rattle.std.specs.Prelude.{◌+◌, ◌≤◌, length};
-ghost use Rattle.model.specs.Limits.{max-gates, max-wires};
+ghost use Rattle.model.specs.Limits.{max_gates, max_wires};
 ghost use Rattle.model.specs.Block.{Block};
 ghost use Rattle.parts.specs.Network.{Network};
 ghost use Rattle.reduction.specs.Arrays.{arrays, Room};
@@ -45,8 +45,8 @@ pub fn reduce_network(
     requires k_in_bounds_2 { k ≤ length delay.now }
     requires n_in_bounds { n ≤ length ins.old }
     requires n_in_bounds_2 { n ≤ length outs.old }
-    requires n_le_max_gates { n ≤ max-gates }
-    requires k_le_max_wires { k ≤ max-wires }
+    requires n_le_max_gates { n ≤ max_gates }
+    requires k_le_max_wires { k ≤ max_wires }
     ensures { (N : Block) → Network N → Wired N n k from.now to.now delay.now → Answered N (arrays live.new from.now target.new top.new kind.new left.new gate.new right.new).tree result }
 {
     if n == 1 {

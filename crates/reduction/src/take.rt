@@ -1,6 +1,6 @@
 // Taking a gate away: its two slots become one.
 ghost use Rattle.std.specs.Prelude.{◌≡◌, ◌+◌, ◌^◌, ◌≤◌, ◌<◌, length, get_or, set};
-ghost use Rattle.model.specs.Limits.{max-gates, max-wires};
+ghost use Rattle.model.specs.Limits.{max_gates, max_wires};
 ghost use Rattle.ordering.specs.Chain.{Chained};
 ghost use Rattle.reduction.specs.Arrays.{arrays, Room, Chosen, Went};
 
@@ -56,10 +56,10 @@ pub(crate) fn take(
 ) -> usize
     requires room { Room k (c + 2) (arrays live.old from.now to.old top.old kind.old left.old gate.old right.old) }
     requires chosen { Chosen k (arrays live.old from.now to.old top.old kind.old left.old gate.old right.old) m i j }
-    requires c_bound { (c + 2 ≤ 2 ^ 32) × (k ≤ max-wires) }
+    requires c_bound { (c + 2 ≤ 2 ^ 32) × (k ≤ max_wires) }
     requires chained { Chained from.now k heads.now links.now }
-    requires max_gates_in_bounds { (max-gates ≤ length heads.now) × (k ≤ length links.now) × (max-gates ≤ length recent.old) }
-    requires i_bound { get_or from.now i 0 < max-gates }
+    requires max_gates_in_bounds { (max_gates ≤ length heads.now) × (k ≤ length links.now) × (max_gates ≤ length recent.old) }
+    requires i_bound { get_or from.now i 0 < max_gates }
     ensures { Went k c m i j (arrays live.old from.now to.old top.old kind.old left.old gate.old right.old) (arrays live.new from.now to.new top.new kind.new left.new gate.new right.new) result }
 {
     let a = from[i];

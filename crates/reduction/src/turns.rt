@@ -1,6 +1,6 @@
 // Gates go, in the order of a queue, until none can.
 ghost use Rattle.std.specs.Prelude.{◌≡◌, ℕ, ◌+◌, ◌*◌, ◌≤◌, ◌<◌, length, get_or};
-ghost use Rattle.model.specs.Limits.{max-gates, max-wires};
+ghost use Rattle.model.specs.Limits.{max_gates, max_wires};
 ghost use Rattle.ordering.specs.Chain.{Chained};
 ghost use Rattle.reduction.specs.Arrays.{arrays, Chosen};
 ghost use Rattle.reduction.specs.Going.{sending, Sound, Ready, Tallied, Queued, Removed, Visited, Ended};
@@ -40,8 +40,8 @@ fn remove(
     requires tallied { Tallied n k (arrays live.old from.now to.old top.old kind.old left.old gate.old right.old) ins.old outs.old }
     requires chained { Chained from.now k heads.now links.now }
     requires u_value { (u ≡ get_or from.now i 0) × (v ≡ get_or to.old j 0) }
-    requires n_in_bounds { (n ≤ length ins.old) × (n ≤ length outs.old) × (max-gates ≤ length heads.now) × (k ≤ length links.now) × (max-gates ≤ length recent.old) }
-    requires n_le_max_gates { (n ≤ max-gates) × (k ≤ max-wires) }
+    requires n_in_bounds { (n ≤ length ins.old) × (n ≤ length outs.old) × (max_gates ≤ length heads.now) × (k ≤ length links.now) × (max_gates ≤ length recent.old) }
+    requires n_le_max_gates { (n ≤ max_gates) × (k ≤ max_wires) }
     ensures { Removed k c m i j u v (arrays live.old from.now to.old top.old kind.old left.old gate.old right.old) (arrays live.new from.now to.new top.new kind.new left.new gate.new right.new) ins.old outs.old ins.new outs.new result }
 {
     let r = take(
@@ -84,8 +84,8 @@ fn visit(
     requires chained { Chained from.now k heads.now links.now }
     requires queued { Queued n first last ins.old outs.old queue.old places.old head tail }
     requires head_lt_tail { (head < tail) × (tail + 2 * sending n k (arrays live.old from.now to.old top.old kind.old left.old gate.old right.old) ≤ n + (n + n)) × (n + (n + n) ≤ length queue.old) }
-    requires n_in_bounds { (n ≤ length ins.old) × (n ≤ length outs.old) × (n ≤ length places.old) × (max-gates ≤ length heads.now) × (k ≤ length links.now) × (max-gates ≤ length recent.old) }
-    requires n_le_max_gates { (n ≤ max-gates) × (k ≤ max-wires) }
+    requires n_in_bounds { (n ≤ length ins.old) × (n ≤ length outs.old) × (n ≤ length places.old) × (max_gates ≤ length heads.now) × (k ≤ length links.now) × (max_gates ≤ length recent.old) }
+    requires n_le_max_gates { (n ≤ max_gates) × (k ≤ max_wires) }
     ensures { Visited n k first last c head tail (arrays live.old from.now to.old top.old kind.old left.old gate.old right.old) (arrays live.new from.now to.new top.new kind.new left.new gate.new right.new) ins.new outs.new queue.new places.new result }
 {
     let m = queue[head] as usize;
@@ -131,8 +131,8 @@ pub(crate) fn reduce(
     requires by_index { (i : ℕ) → i < k → get_or live.old i 0 ≡ 1 }
     requires chained { Chained from.now k heads.now links.now }
     requires n_in_bounds { n + (n + n) ≤ length queue.old }
-    requires n_in_bounds_2 { (n ≤ length ins.old) × (n ≤ length outs.old) × (n ≤ length places.old) × (max-gates ≤ length heads.now) × (k ≤ length links.now) × (max-gates ≤ length recent.old) }
-    requires n_le_max_gates { (n ≤ max-gates) × (k ≤ max-wires) }
+    requires n_in_bounds_2 { (n ≤ length ins.old) × (n ≤ length outs.old) × (n ≤ length places.old) × (max_gates ≤ length heads.now) × (k ≤ length links.now) × (max_gates ≤ length recent.old) }
+    requires n_le_max_gates { (n ≤ max_gates) × (k ≤ max_wires) }
     ensures { Ended n k first last (arrays live.old from.now to.old top.old kind.old left.old gate.old right.old) (arrays live.new from.now to.new top.new kind.new left.new gate.new right.new) result }
 {
     tally(to, ins, k, n);

@@ -1,5 +1,5 @@
 // The slacks of a block file's gates.
-ghost use Rattle.model.specs.Answer.{AnswersSlacks, slacks-answer};
+ghost use Rattle.model.specs.Answer.{AnswersSlacks, slacks_answer};
 
 use loading::{Loaded, load};
 use model::SlacksAnswer;
@@ -8,7 +8,7 @@ use rooms::slacks::slacks_with_room;
 
 // The slack of each gate to the front of `out`, or the first refusal of 1 to 10 that fits.
 pub fn slacks(file: &[u8], out: &mut [i32]) -> SlacksAnswer
-    ensures { AnswersSlacks file.now out.old (record { answer = slacks-answer result; memory = out.new }) }
+    ensures { AnswersSlacks file.now out.old (record { answer = slacks_answer result; memory = out.new }) }
 {
     let mut delays = [0u32; MAX_GATES];
     let mut activities = [0u32; MAX_GATES];

@@ -1,7 +1,7 @@
 // Room for the best increases, then what is found.
 ghost use Rattle.std.specs.Prelude.{List, ℕ};
-ghost use Rattle.model.specs.Answer.{AnswersBest, best-answer};
-ghost use Rattle.blockfile.specs.Held.{gate-arrays, wire-arrays};
+ghost use Rattle.model.specs.Answer.{AnswersBest, best_answer};
+ghost use Rattle.blockfile.specs.Held.{gate_arrays, wire_arrays};
 ghost use Rattle.loading.specs.HeldFile.{HeldFile};
 
 use answers::best_lines::best_held;
@@ -26,8 +26,8 @@ pub fn best_with_room(
     order: &[u32],
     increases: &mut [u32],
 ) -> BestAnswer
-    requires { (file : List ℕ) × HeldFile file n m arrival deadline activity (gate-arrays delays.now activities.now counts.now step_widths.now drops.now) (wire-arrays sources.now targets.now wire_delays.now) order.now }
-    ensures { (file : List ℕ) → HeldFile file n m arrival deadline activity (gate-arrays delays.now activities.now counts.now step_widths.now drops.now) (wire-arrays sources.now targets.now wire_delays.now) order.now → AnswersBest file increases.old (record { answer = best-answer result; memory = increases.new }) }
+    requires { (file : List ℕ) × HeldFile file n m arrival deadline activity (gate_arrays delays.now activities.now counts.now step_widths.now drops.now) (wire_arrays sources.now targets.now wire_delays.now) order.now }
+    ensures { (file : List ℕ) → HeldFile file n m arrival deadline activity (gate_arrays delays.now activities.now counts.now step_widths.now drops.now) (wire_arrays sources.now targets.now wire_delays.now) order.now → AnswersBest file increases.old (record { answer = best_answer result; memory = increases.new }) }
 {
     if increases.len() < n {
         return BestAnswer::Refused(Refusal::Room { needed: n });

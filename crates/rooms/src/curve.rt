@@ -1,7 +1,7 @@
 // Room for the curve in both slices, then what is found.
 ghost use Rattle.std.specs.Prelude.{List, ℕ};
-ghost use Rattle.model.specs.Answer.{AnswersCurve, CurveBounds, curve-answer};
-ghost use Rattle.blockfile.specs.Held.{gate-arrays, wire-arrays};
+ghost use Rattle.model.specs.Answer.{AnswersCurve, CurveBounds, curve_answer};
+ghost use Rattle.blockfile.specs.Held.{gate_arrays, wire_arrays};
 ghost use Rattle.loading.specs.HeldFile.{HeldFile};
 
 use answers::curve_lines::curve_held;
@@ -25,8 +25,8 @@ pub fn curve_with_room(
     widths: &mut [u32],
     gains: &mut [u64],
 ) -> CurveAnswer
-    requires { (file : List ℕ) × (arrival : ℕ) × (deadline : ℕ) × HeldFile file n m arrival deadline activity (gate-arrays delays.now activities.now counts.now step_widths.now drops.now) (wire-arrays sources.now targets.now wire_delays.now) order.now }
-    ensures by_index { (file : List ℕ) (arrival deadline : ℕ) → HeldFile file n m arrival deadline activity (gate-arrays delays.now activities.now counts.now step_widths.now drops.now) (wire-arrays sources.now targets.now wire_delays.now) order.now → AnswersCurve file (record { for-widths = widths.old; for-gains = gains.old }) (record { answer = curve-answer result; memory = record { for-widths = widths.new; for-gains = gains.new } }) }
+    requires { (file : List ℕ) × (arrival : ℕ) × (deadline : ℕ) × HeldFile file n m arrival deadline activity (gate_arrays delays.now activities.now counts.now step_widths.now drops.now) (wire_arrays sources.now targets.now wire_delays.now) order.now }
+    ensures by_index { (file : List ℕ) (arrival deadline : ℕ) → HeldFile file n m arrival deadline activity (gate_arrays delays.now activities.now counts.now step_widths.now drops.now) (wire_arrays sources.now targets.now wire_delays.now) order.now → AnswersCurve file (record { for_widths = widths.old; for_gains = gains.old }) (record { answer = curve_answer result; memory = record { for_widths = widths.new; for_gains = gains.new } }) }
     ensures curve_bounds { CurveBounds result gains.new }
 {
     if widths.len() < MAX_PAIRS {

@@ -1,7 +1,7 @@
 // Room for the slacks, then the slacks.
 ghost use Rattle.std.specs.Prelude.{List, ℕ};
-ghost use Rattle.model.specs.Answer.{AnswersSlacks, slacks-answer};
-ghost use Rattle.blockfile.specs.Held.{gate-arrays, wire-arrays};
+ghost use Rattle.model.specs.Answer.{AnswersSlacks, slacks_answer};
+ghost use Rattle.blockfile.specs.Held.{gate_arrays, wire_arrays};
 ghost use Rattle.loading.specs.HeldFile.{HeldFile};
 
 use model::{Refusal, SlacksAnswer};
@@ -20,8 +20,8 @@ pub fn slacks_with_room(
     order: &[u32],
     out: &mut [i32],
 ) -> SlacksAnswer
-    requires { (file : List ℕ) × (activity : ℕ) × (activities : List ℕ) × (counts : List ℕ) × (steps : List ℕ) × (drops : List ℕ) × HeldFile file n m arrival deadline activity (gate-arrays delays.now activities counts steps drops) (wire-arrays sources.now targets.now wire_delays.now) order.now }
-    ensures { (file : List ℕ) (activity : ℕ) (activities counts steps drops : List ℕ) → HeldFile file n m arrival deadline activity (gate-arrays delays.now activities counts steps drops) (wire-arrays sources.now targets.now wire_delays.now) order.now → AnswersSlacks file out.old (record { answer = slacks-answer result; memory = out.new }) }
+    requires { (file : List ℕ) × (activity : ℕ) × (activities : List ℕ) × (counts : List ℕ) × (steps : List ℕ) × (drops : List ℕ) × HeldFile file n m arrival deadline activity (gate_arrays delays.now activities counts steps drops) (wire_arrays sources.now targets.now wire_delays.now) order.now }
+    ensures { (file : List ℕ) (activity : ℕ) (activities counts steps drops : List ℕ) → HeldFile file n m arrival deadline activity (gate_arrays delays.now activities counts steps drops) (wire_arrays sources.now targets.now wire_delays.now) order.now → AnswersSlacks file out.old (record { answer = slacks_answer result; memory = out.new }) }
 {
     if out.len() < n {
         return SlacksAnswer::Refused(Refusal::Room { needed: n });

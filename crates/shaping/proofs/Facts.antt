@@ -10,79 +10,79 @@ use lib.Dec.{ltb}
 use lib.ListN.{length, get_or}
 use Rattle.lists.proofs.Compare.{compared}
 use Rattle.lists.proofs.Member.{placed}
-use Rattle.model.specs.Limits.{max-activity, max-drop}
-use Rattle.model.specs.Block.{Step, Wire, Block, gate, gate-count, first, last, Joined}
+use Rattle.model.specs.Limits.{max_activity, max_drop}
+use Rattle.model.specs.Block.{Step, Wire, Block, gate, gate_count, first, last, Joined}
 use Rattle.model.specs.Gain.{drop_of}
-use Rattle.model.specs.Refusal.{SoundNetwork, into-first, out-of-last}
-use Rattle.model.proofs.Limited.{StepLimits, BlockLimits, wires-join}
+use Rattle.model.specs.Refusal.{SoundNetwork, into_first, out_of_last}
+use Rattle.model.proofs.Limited.{StepLimits, BlockLimits, wires_join}
 use Rattle.model.proofs.Slack.{entered, left}
-use Rattle.model.proofs.Turned.{stands-unturned}
-use Rattle.optimum.specs.Gates.{first-drop, Descending}
+use Rattle.model.proofs.Turned.{stands_unturned}
+use Rattle.optimum.specs.Gates.{first_drop, Descending}
 use Rattle.optimum.specs.BlockTree.{WiresJoinGates, NoneTwice, Ranges}
-use Rattle.parts.specs.Network.{Network, wire-at}
+use Rattle.parts.specs.Network.{Network, wire_at}
 
 -- no two places of the list hold wires between the same gates
 abbrev Apart : List Wire → Type 0
 Apart ws =
     (i j : ℕ) (d : Wire) → i < j → j < length ws → (get_or ws j d).source ≡ (get_or ws i d).source → (get_or ws j d).target ≢ (get_or ws i d).target
 
-none-twice : (ws : List Wire) → Apart ws → NoneTwice ws
-none-twice [] apart = tt
-none-twice (v ∷ ws) apart = (
+none_twice : (ws : List Wire) → Apart ws → NoneTwice ws
+none_twice [] apart = tt
+none_twice (v ∷ ws) apart = (
   λ (j : Joined ws v.source v.target).
       let r = placed ws v j.1 in
       let l = r.1 in
       apart 0 (suc r.0) v (omega arith) (omega arith) (ap (λ (u : Wire). u.source) r.2) (ap (λ (u : Wire). u.target) r.2),
-  none-twice ws (λ (i j : ℕ) (d : Wire) (h : i < j) (l : j < length ws). apart (suc i) (suc j) d (omega arith) (omega arith)),
+  none_twice ws (λ (i j : ℕ) (d : Wire) (h : i < j) (l : j < length ws). apart (suc i) (suc j) d (omega arith) (omega arith)),
 )
 
 -- each step drops less than the step before it
 abbrev Falling : List Step → Type 0
 Falling ss = (j : ℕ) (d : Step) → suc j < length ss → (get_or ss (suc j) d).drop < (get_or ss j d).drop
 
-falling-descends : (ss : List Step) → Falling ss → Descending ss
-falling-descends [] falls = tt
-falling-descends (s ∷ ss) falls =
-    (next ss falls, falling-descends ss (λ (j : ℕ) (d : Step) (h : suc j < length ss). falls (suc j) d (omega arith)))
+falling_descends : (ss : List Step) → Falling ss → Descending ss
+falling_descends [] falls = tt
+falling_descends (s ∷ ss) falls =
+    (next ss falls, falling_descends ss (λ (j : ℕ) (d : Step) (h : suc j < length ss). falls (suc j) d (omega arith)))
   where
-    next : (rest : List Step) → Falling (s ∷ rest) → first-drop rest ≤ s.drop
+    next : (rest : List Step) → Falling (s ∷ rest) → first_drop rest ≤ s.drop
     next [] f = omega arith
     next (r ∷ rest) f = omega (arith, f 0 r (omega arith))
 
 -- a drop is that of a step, or 0
-drop-most : (ss : List Step) → ((j : ℕ) (d : Step) → j < length ss → StepLimits (get_or ss j d)) → (k : ℕ) → drop_of ss k ≤ max-drop
+drop_most : (ss : List Step) → ((j : ℕ) (d : Step) → j < length ss → StepLimits (get_or ss j d)) → (k : ℕ) → drop_of ss k ≤ max_drop
 unfolding drop_of
-drop-most [] within k = omega arith
-drop-most (s ∷ ss) within k =
-    go (ltb k s.width) (drop-most ss (λ (j : ℕ) (d : Step) (h : j < length ss). within (suc j) d (omega arith)) (k - s.width))
+drop_most [] within k = omega arith
+drop_most (s ∷ ss) within k =
+    go (ltb k s.width) (drop_most ss (λ (j : ℕ) (d : Step) (h : j < length ss). within (suc j) d (omega arith)) (k - s.width))
   where
-    go : (b : Bool) → drop_of ss (k - s.width) ≤ max-drop → cond b s.drop (drop_of ss (k - s.width)) ≤ max-drop
-    go true rest = (within 0 s (omega arith)).drop-most
+    go : (b : Bool) → drop_of ss (k - s.width) ≤ max_drop → cond b s.drop (drop_of ss (k - s.width)) ≤ max_drop
+    go true rest = (within 0 s (omega arith)).drop_most
     go false rest = rest
 
 -- What the limits alone give.
 module _ (B : Block) (limits : BlockLimits B) where
   pub descending : (g : ℕ) → Descending (gate B g).steps
-  descending g = falling-descends (gate B g).steps (limits.gate-limits g).drops-fall
+  descending g = falling_descends (gate B g).steps (limits.gate_limits g).drops_fall
 
-  pub ranges : Ranges B max-activity max-drop
+  pub ranges : Ranges B max_activity max_drop
   ranges =
       record {
-        input = limits.activity-most;
-        nets = λ (g : ℕ). (limits.gate-limits g).activity-most;
-        drops = λ (g : ℕ). drop-most (gate B g).steps (limits.gate-limits g).step-limits;
+        input = limits.activity_most;
+        nets = λ (g : ℕ). (limits.gate_limits g).activity_most;
+        drops = λ (g : ℕ). drop_most (gate B g).steps (limits.gate_limits g).step_limits;
       }
 
 module _ (B : Block) (limits : BlockLimits B) (sound : SoundNetwork B) where
   pub join : WiresJoinGates B
-  join = wires-join limits
+  join = wires_join limits
 
-  pub no-wire-twice : NoneTwice B.wires
-  no-wire-twice = none-twice B.wires limits.no-wire-twice
+  pub no_wire_twice : NoneTwice B.wires
+  no_wire_twice = none_twice B.wires limits.no_wire_twice
 
   same_place : (i j : ℕ) → i < length B.wires → j < length B.wires
-      → (wire-at B.wires i).source ≡ (wire-at B.wires j).source
-      → (wire-at B.wires i).target ≡ (wire-at B.wires j).target
+      → (wire_at B.wires i).source ≡ (wire_at B.wires j).source
+      → (wire_at B.wires i).target ≡ (wire_at B.wires j).target
       → i ≡ j
   same_place i j hi hj s t = by (compared i j)
     where
@@ -90,25 +90,25 @@ module _ (B : Block) (limits : BlockLimits B) (sound : SoundNetwork B) where
       d = record { source = 0; target = 0; delay = 0 }
 
       by : (i < j) ⊎ (i ≡ j) ⊎ (j < i) → i ≡ j
-      by (inl l) = absurd (limits.no-wire-twice i j d l hj (sym s) (sym t))
+      by (inl l) = absurd (limits.no_wire_twice i j d l hj (sym s) (sym t))
       by (inr (inl e)) = e
-      by (inr (inr l)) = absurd (limits.no-wire-twice j i d l hi s t)
+      by (inr (inr l)) = absurd (limits.no_wire_twice j i d l hi s t)
 
   pub network : Network B
   network =
       record {
-        some-gate = limits.some-gate;
+        some_gate = limits.some_gate;
         below = join;
         once = same_place;
         acyclic = sound.no_loop;
-        first-none = λ (x : ℕ) (j : Joined B.wires x (first B)). sound.ends (first B) (into-first x refl j);
-        wire-into =
-            λ (g : ℕ) (h : g < gate-count B) (other : g ≢ first B).
+        first_none = λ (x : ℕ) (j : Joined B.wires x (first B)). sound.ends (first B) (into_first x refl j);
+        wire_into =
+            λ (g : ℕ) (h : g < gate_count B) (other : g ≢ first B).
             let r = entered B sound g h other in
             (r.0, (r.1, r.2));
-        last_none = λ (y : ℕ) (j : Joined B.wires (last B) y). sound.ends (last B) (out-of-last y refl j);
-        wire-from =
-            λ (g : ℕ) (h : g < gate-count B) (other : g ≢ last B).
+        last_none = λ (y : ℕ) (j : Joined B.wires (last B) y). sound.ends (last B) (out_of_last y refl j);
+        wire_from =
+            λ (g : ℕ) (h : g < gate_count B) (other : g ≢ last B).
             let r = left B sound g h other in
-            (r.0, (r.1, stands-unturned B.wires r.2));
+            (r.0, (r.1, stands_unturned B.wires r.2));
       }

@@ -7,35 +7,35 @@ use Rattle.model.specs.Answer.{NotSeriesParallelAt}
 use Rattle.model.proofs.Limited.{BlockLimits}
 use Rattle.parts.specs.Nodes.{Tree}
 use Rattle.reduction.specs.Wired.{Wired}
-use Rattle.optimum.specs.BlockTree.{block-tree}
-use Rattle.planting.specs.Copy.{planted-in, max-nodes}
+use Rattle.optimum.specs.BlockTree.{block_tree}
+use Rattle.planting.specs.Copy.{planted_in, max_nodes}
 use Rattle.planting.specs.Planted as Planting
-use Rattle.planting.specs.TreeWords.{plot-of, nodes-held}
+use Rattle.planting.specs.TreeWords.{plot_of, nodes_held}
 use Rattle.shaping.specs.declared.plant.TreeAnswer.{TreeAnswer}
 use Rattle.shaping.specs.declared.plant.TreeAnswer.TheVariants.{Planted, NotSeriesParallel}
 
 -- B is within the limits of a file, its network is sound, and its m wires stand in the arrays.
-pub record Given (B : Block) (n m : ℕ) (sources targets wire-delays : List ℕ) : Type 0 where
+pub record Given (B : Block) (n m : ℕ) (sources targets wire_delays : List ℕ) : Type 0 where
   pub limits : BlockLimits B
   pub sound : SoundNetwork B
-  pub wired : Wired B n m sources targets wire-delays
+  pub wired : Wired B n m sources targets wire_delays
 
 -- the arrays have a place for each of m wires
-pub record WiresLong (m : ℕ) (sources targets wire-delays : List ℕ) : Type 0 where
-  pub sources-long : m ≤ length sources
-  pub targets-long : m ≤ length targets
-  pub delays-long : m ≤ length wire-delays
+pub record WiresLong (m : ℕ) (sources targets wire_delays : List ℕ) : Type 0 where
+  pub sources_long : m ≤ length sources
+  pub targets_long : m ≤ length targets
+  pub delays_long : m ≤ length wire_delays
 
 -- The block is series-parallel, and its tree stands in the first c nodes of the words, whose other nodes are as in `before`.
 pub record PlantedBlock (B : Block) (c : ℕ) (before words : List ℕ) : Type 0 where
   pub fits : SeriesParallel B
   pub tree : Tree
-  pub is-tree : Planting.as-tree tree ≡ block-tree B fits
-  pub planted : Planting.Planted tree c (plot-of words)
-  pub written : plot-of words ≡ planted-in tree (plot-of before)
-  pub held : nodes-held words ≡ c
+  pub is_tree : Planting.as_tree tree ≡ block_tree B fits
+  pub planted : Planting.Planted tree c (plot_of words)
+  pub written : plot_of words ≡ planted_in tree (plot_of before)
+  pub held : nodes_held words ≡ c
   pub some : 0 < c
-  pub few : c ≤ max-nodes
+  pub few : c ≤ max_nodes
 
 -- The block's tree stands in the words; or the block is not series-parallel, which the lowest gate that remains tells, and the words are as before.
 abbrev pub PlantedOrNot : Block → TreeAnswer → List ℕ → List ℕ → Type 0

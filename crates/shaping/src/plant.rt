@@ -1,7 +1,7 @@
 // The tree of a block's parts, planted in the words of a tree.
 ghost use Rattle.std.specs.Prelude.{◌≤◌, length};
 ghost use Rattle.model.specs.Block.{Block};
-ghost use Rattle.planting.specs.TreeWords.{tree-words};
+ghost use Rattle.planting.specs.TreeWords.{tree_words};
 ghost use Rattle.shaping.specs.PlantedBlock.{Given, WiresLong, PlantedOrNot};
 
 use model::limits::{MAX_GATES, MAX_WIRES};
@@ -29,7 +29,7 @@ pub fn plant_block(
 ) -> TreeAnswer
     requires given { (B : Block) × Given B n m sources.now targets.now wire_delays.now }
     requires wires_long { WiresLong m sources.now targets.now wire_delays.now }
-    requires tree_words_in_bounds { tree-words ≤ length tree.old }
+    requires tree_words_in_bounds { tree_words ≤ length tree.old }
     ensures planted { (B : Block) → Given B n m sources.now targets.now wire_delays.now → PlantedOrNot B result tree.old tree.new }
 {
     let mut live = [0u32; MAX_WIRES];

@@ -8,11 +8,11 @@ use native.Mathlib.Nat.{eq-zero-or-pos}
 use native.Mathlib.Omega.{arith}
 use Rattle.parts.specs.Nodes.{Nodes}
 use Rattle.optimum.specs.Tree.{count}
-use Rattle.optimum.proofs.Count.{in-series, in-parallel}
-use Rattle.heads.specs.Plan.{node-count, part, kind, left, gate, right, parent, Shaped}
+use Rattle.optimum.proofs.Count.{in_series, in_parallel}
+use Rattle.heads.specs.Plan.{node_count, part, kind, left, gate, right, parent, Shaped}
 use Rattle.heads.specs.Stored.{Up, top, over}
-use Rattle.heads.proofs.Trees.{by_kind, part-wire, part-series, part-parallel}
-use Rattle.heads.proofs.Climbing.{up-within}
+use Rattle.heads.proofs.Trees.{by_kind, part_wire, part_series, part_parallel}
+use Rattle.heads.proofs.Climbing.{up_within}
 
 -- a way up, one node longer
 up_more : (parents : List ℕ) (i j p : ℕ) → parent parents i ≡ p → i < p → Up parents i j → Up parents p j
@@ -26,46 +26,46 @@ comparable parents j k m (over _ l u) top = inl (over m l u)
 comparable parents j k m (over _ l u) (over _ _ v) = comparable parents j k (parent parents m) u v
 
 -- a node with a parent from i on is not above another below i
-not-above : (parents : List ℕ) (i j k : ℕ) → j < i → i ≤ parent parents k → j ≢ k → Up parents j k → ⊥
-not-above parents i j k l a d top = d refl
-not-above parents i j k l a d (over _ m u) = omega (arith, up-within parents j (parent parents k) u)
+not_above : (parents : List ℕ) (i j k : ℕ) → j < i → i ≤ parent parents k → j ≢ k → Up parents j k → ⊥
+not_above parents i j k l a d top = d refl
+not_above parents i j k l a d (over _ m u) = omega (arith, up_within parents j (parent parents k) u)
 
 module _ (N : Nodes) (parents : List ℕ) (shaped : Shaped N parents) where
   -- the series node of gate g below node k
   pub record Holds (k g : ℕ) : Type 0 where
     pub node : ℕ
-    pub in-nodes : node < node-count N
-    pub is-series : kind N node ≡ 1
-    pub is-gate : gate N node ≡ g
+    pub in_nodes : node < node_count N
+    pub is_series : kind N node ≡ 1
+    pub is_gate : gate N node ≡ g
     pub up : Up parents k node
 
   higher : (k l g : ℕ) → parent parents l ≡ k → l < k → Holds l g → Holds k g
   higher k l g e m s =
-      record { node = s.node; in-nodes = s.in-nodes; is-series = s.is-series; is-gate = s.is-gate; up = up_more parents l s.node k e m s.up }
+      record { node = s.node; in_nodes = s.in_nodes; is_series = s.is_series; is_gate = s.is_gate; up = up_more parents l s.node k e m s.up }
 
-  holds-within : (m k g : ℕ) → k < m → k < node-count N → 0 < count (part N k) g → Holds k g
-  holds-within zero k g l node = absurd (omega arith)
-  holds-within (suc m) k g l node =
+  holds_within : (m k g : ℕ) → k < m → k < node_count N → 0 < count (part N k) g → Holds k g
+  holds_within zero k g l node = absurd (omega arith)
+  holds_within (suc m) k g l node =
       by_kind (kind N k)
-      (λ e. rw (part-wire N k e) (λ p. absurd (omega arith)))
+      (λ e. rw (part_wire N k e) (λ p. absurd (omega arith)))
       (λ e.
       let a = shaped.left_below k node (omega arith) in
-      let b = shaped.right-below k node (omega arith) in
-      rw (part-series N k a b e) (λ p.
-      in-series (part N (left N k)) (gate N k) (part N (right N k)) g (Holds k g) p
-      (λ q. higher k (left N k) g (shaped.left-parent k node (omega arith)) a (holds-within m (left N k) g (omega arith) (omega arith) q))
-      (λ q. record { node = k; in-nodes = node; is-series = e; is-gate = sym q; up = top })
-      (λ q. higher k (right N k) g (shaped.right-parent k node (omega arith)) b (holds-within m (right N k) g (omega arith) (omega arith) q))))
+      let b = shaped.right_below k node (omega arith) in
+      rw (part_series N k a b e) (λ p.
+      in_series (part N (left N k)) (gate N k) (part N (right N k)) g (Holds k g) p
+      (λ q. higher k (left N k) g (shaped.left_parent k node (omega arith)) a (holds_within m (left N k) g (omega arith) (omega arith) q))
+      (λ q. record { node = k; in_nodes = node; is_series = e; is_gate = sym q; up = top })
+      (λ q. higher k (right N k) g (shaped.right_parent k node (omega arith)) b (holds_within m (right N k) g (omega arith) (omega arith) q))))
       (λ e.
       let a = shaped.left_below k node (omega arith) in
-      let b = shaped.right-below k node (omega arith) in
-      rw (part-parallel N k a b e) (λ p.
-      in-parallel (part N (left N k)) (part N (right N k)) g (Holds k g) p
-      (λ q. higher k (left N k) g (shaped.left-parent k node (omega arith)) a (holds-within m (left N k) g (omega arith) (omega arith) q))
-      (λ q. higher k (right N k) g (shaped.right-parent k node (omega arith)) b (holds-within m (right N k) g (omega arith) (omega arith) q))))
+      let b = shaped.right_below k node (omega arith) in
+      rw (part_parallel N k a b e) (λ p.
+      in_parallel (part N (left N k)) (part N (right N k)) g (Holds k g) p
+      (λ q. higher k (left N k) g (shaped.left_parent k node (omega arith)) a (holds_within m (left N k) g (omega arith) (omega arith) q))
+      (λ q. higher k (right N k) g (shaped.right_parent k node (omega arith)) b (holds_within m (right N k) g (omega arith) (omega arith) q))))
 
-  holds : (k g : ℕ) → k < node-count N → 0 < count (part N k) g → Holds k g
-  holds k g = holds-within (suc k) k g (omega arith)
+  holds : (k g : ℕ) → k < node_count N → 0 < count (part N k) g → Holds k g
+  holds k g = holds_within (suc k) k g (omega arith)
 
   none : (c : ℕ) → (0 < c → ⊥) → c ≡ 0
   none c d = go (eq-zero-or-pos c)
@@ -75,23 +75,23 @@ module _ (N : Nodes) (parents : List ℕ) (shaped : Shaped N parents) where
       go (inr p) = absurd (d p)
 
   -- two nodes below i whose parents are not share no gate
-  pub share-none : (i j k g : ℕ) → j < i → k < i → j < node-count N → k < node-count N → i ≤ parent parents j → i ≤ parent parents k → j ≢ k
+  pub share_none : (i j k g : ℕ) → j < i → k < i → j < node_count N → k < node_count N → i ≤ parent parents j → i ≤ parent parents k → j ≢ k
       → 0 < count (part N k) g → count (part N j) g ≡ 0
-  share-none i j k g lj lk nj nk aj ak d p =
+  share_none i j k g lj lk nj nk aj ak d p =
       none (count (part N j) g) (λ q.
       let a = holds j g nj q in
       let b = holds k g nk p in
-      let s = shaped.own-gate a.node b.node a.in-nodes b.in-nodes a.is-series b.is-series (a.is-gate ∙ sym b.is-gate) in
+      let s = shaped.own_gate a.node b.node a.in_nodes b.in_nodes a.is_series b.is_series (a.is_gate ∙ sym b.is_gate) in
       meet (comparable parents j k b.node (rw s at a.up) b.up))
     where
       meet : Up parents j k ⊎ Up parents k j → ⊥
-      meet (inl u) = not-above parents i j k lj ak d u
-      meet (inr u) = not-above parents i k j lk aj (λ e. d (sym e)) u
+      meet (inl u) = not_above parents i j k lj ak d u
+      meet (inr u) = not_above parents i k j lk aj (λ e. d (sym e)) u
 
   -- the gate of a node above j is none of j's part
-  pub gate-beyond : (j k : ℕ) → j < node-count N → k < node-count N → kind N k ≡ 1 → j < k → count (part N j) (gate N k) ≡ 0
-  gate-beyond j k nj nk e l =
+  pub gate_beyond : (j k : ℕ) → j < node_count N → k < node_count N → kind N k ≡ 1 → j < k → count (part N j) (gate N k) ≡ 0
+  gate_beyond j k nj nk e l =
       none (count (part N j) (gate N k)) (λ q.
       let a = holds j (gate N k) nj q in
-      let s = shaped.own-gate a.node k a.in-nodes nk a.is-series e a.is-gate in
-      omega (arith, up-within parents j a.node a.up))
+      let s = shaped.own_gate a.node k a.in_nodes nk a.is_series e a.is_gate in
+      omega (arith, up_within parents j a.node a.up))

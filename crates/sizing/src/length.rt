@@ -1,9 +1,9 @@
 // How long the part of each node lasts with no increase.
 ghost use Rattle.std.specs.Prelude.{◌≡◌, ◌<◌};
 ghost use Rattle.optimum.specs.Tree.{longest, zeros};
-ghost use Rattle.planting.specs.TreeWords.{tree-nodes};
-ghost use Rattle.heads.specs.Plan.{node-count, part};
-ghost use Rattle.sizing.specs.Raise.{Lengths, Measurable, delays-in};
+ghost use Rattle.planting.specs.TreeWords.{tree_nodes};
+ghost use Rattle.heads.specs.Plan.{node_count, part};
+ghost use Rattle.sizing.specs.Raise.{Lengths, Measurable, delays_in};
 
 use heads::store::index;
 use heads::tree::{gate_at, kind_at, left_at, node_count, right_at};
@@ -11,10 +11,10 @@ use planting::tree_words::TreeWords;
 
 // How long the part of node i lasts, by the lengths of the nodes below it.
 fn length_of(i: usize, tree: &TreeWords, delays: &[u32], lengths: &[u32]) -> u32
-    requires measurable { Measurable (tree-nodes tree.now) delays.now lengths.now }
-    requires lengths { Lengths (tree-nodes tree.now) (delays-in delays.now) lengths.now i }
-    requires i_bound { i < node-count (tree-nodes tree.now) }
-    ensures { result ≡ longest (delays-in delays.now) (part (tree-nodes tree.now) i) (zeros (part (tree-nodes tree.now) i)) }
+    requires measurable { Measurable (tree_nodes tree.now) delays.now lengths.now }
+    requires lengths { Lengths (tree_nodes tree.now) (delays_in delays.now) lengths.now i }
+    requires i_bound { i < node_count (tree_nodes tree.now) }
+    ensures { result ≡ longest (delays_in delays.now) (part (tree_nodes tree.now) i) (zeros (part (tree_nodes tree.now) i)) }
 {
     let kind = kind_at(tree, i);
     if kind == 0 {
@@ -30,8 +30,8 @@ fn length_of(i: usize, tree: &TreeWords, delays: &[u32], lengths: &[u32]) -> u32
 
 // How long the part of each node lasts.
 pub fn part_lengths(tree: &TreeWords, delays: &[u32], lengths: &mut [u32])
-    requires { Measurable (tree-nodes tree.now) delays.now lengths.old }
-    ensures { Lengths (tree-nodes tree.now) (delays-in delays.now) lengths.new (node-count (tree-nodes tree.now)) }
+    requires { Measurable (tree_nodes tree.now) delays.now lengths.old }
+    ensures { Lengths (tree_nodes tree.now) (delays_in delays.now) lengths.new (node_count (tree_nodes tree.now)) }
 {
     let count = node_count(tree);
     let mut i: usize = 0;

@@ -1,7 +1,7 @@
 // The raised start: inside out, each side of a parallel node gets the ticks that it lacks to the other.
 ghost use Rattle.std.specs.Prelude.{◌≡◌, ℕ, ◌-◌, ◌≤◌, ◌<◌, length};
-ghost use Rattle.planting.specs.TreeWords.{tree-nodes};
-ghost use Rattle.heads.specs.Plan.{plan, node-count, StepsHeld};
+ghost use Rattle.planting.specs.TreeWords.{tree_nodes};
+ghost use Rattle.heads.specs.Plan.{plan, node_count, StepsHeld};
 ghost use Rattle.handout.specs.State.{state};
 ghost use Rattle.sizing.specs.Raise.{Lengths, Standing, Levelled, Raisable, Raised};
 
@@ -30,7 +30,7 @@ fn raise_sides(
 )
     requires standing { Standing (plan block.now tree.now) (state increases.old heads.old) i }
     requires steps_held { StepsHeld block.now }
-    requires i_bound { (i < node-count (tree-nodes tree.now)) × (node-count (tree-nodes tree.now) ≤ length lengths.now) }
+    requires i_bound { (i < node_count (tree_nodes tree.now)) × (node_count (tree_nodes tree.now) ≤ length lengths.now) }
     ensures standing_2 { Standing (plan block.now tree.now) (state increases.new heads.new) i }
     ensures levelled { Levelled (plan block.now tree.now) lengths.now increases.old increases.new i }
 {
@@ -55,8 +55,8 @@ pub fn raise_and_fill(
 )
     requires raisable { Raisable (plan block.now tree.now) (state increases.old heads.old) }
     requires steps_held { StepsHeld block.now }
-    requires tree_in_bounds { node-count (tree-nodes tree.now) ≤ length lengths.now }
-    ensures { (d : ℕ → ℕ) → Lengths (tree-nodes tree.now) d lengths.now (node-count (tree-nodes tree.now)) → Raised (plan block.now tree.now) d (state increases.new heads.new) }
+    requires tree_in_bounds { node_count (tree_nodes tree.now) ≤ length lengths.now }
+    ensures { (d : ℕ → ℕ) → Lengths (tree_nodes tree.now) d lengths.now (node_count (tree_nodes tree.now)) → Raised (plan block.now tree.now) d (state increases.new heads.new) }
 {
     let count = node_count(tree);
     let mut i: usize = 0;

@@ -1,8 +1,8 @@
 // The raised start, from which ticks are handed out. The array `lengths` is scratch.
-ghost use Rattle.planting.specs.TreeWords.{tree-nodes};
+ghost use Rattle.planting.specs.TreeWords.{tree_nodes};
 ghost use Rattle.heads.specs.Plan.{plan, StepsHeld};
 ghost use Rattle.handout.specs.State.{state};
-ghost use Rattle.sizing.specs.Raise.{Measurable, Raised, Sizable, delays-in};
+ghost use Rattle.sizing.specs.Raise.{Measurable, Raised, Sizable, delays_in};
 
 use crate::length::part_lengths;
 use crate::raise::raise_and_fill;
@@ -23,8 +23,8 @@ pub fn start(
 )
     requires sizable { Sizable (plan block.now tree.now) (state increases.old heads.old) }
     requires steps_held { StepsHeld block.now }
-    requires measurable { Measurable (tree-nodes tree.now) delays.now lengths.old }
-    ensures { Raised (plan block.now tree.now) (delays-in delays.now) (state increases.new heads.new) }
+    requires measurable { Measurable (tree_nodes tree.now) delays.now lengths.old }
+    ensures { Raised (plan block.now tree.now) (delays_in delays.now) (state increases.new heads.new) }
 {
     unslowed_heads(block, increases, heads);
     part_lengths(tree, delays, lengths);

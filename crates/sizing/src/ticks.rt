@@ -1,6 +1,6 @@
 // Ticks handed out at a node run by run: to raise a branch, or to find the increases after so many ticks.
 ghost use Rattle.std.specs.Prelude.{◌≡◌, ◌<◌, min};
-ghost use Rattle.planting.specs.TreeWords.{tree-parents};
+ghost use Rattle.planting.specs.TreeWords.{tree_parents};
 ghost use Rattle.ties.specs.Code.{head_of};
 ghost use Rattle.heads.specs.Plan.{plan, parent, StepsHeld};
 ghost use Rattle.handout.specs.State.{state, Ready};
@@ -41,7 +41,7 @@ pub fn ticks_out(
 )
     requires ready { Ready (plan block.now tree.now) (state increases.old heads.old) i }
     requires steps_held { StepsHeld block.now }
-    requires i_bound { i < parent (tree-parents tree.now) i }
+    requires i_bound { i < parent (tree_parents tree.now) i }
     ensures { TickedOut (plan block.now tree.now) (state increases.old heads.old) (state increases.new heads.new) i ticks }
 {
     let mut left = ticks;

@@ -26,7 +26,7 @@ pub record OnlyLive (lives : List ℕ) (k r : ℕ) : Type 0 where
   pub within : r ≤ k
   pub live : r < k → get_or lives r 0 ≡ 1
   pub only : r < k → (q : ℕ) → q < k → get_or lives q 0 ≡ 1 → q ≡ r
-  pub not-one : r ≡ k → (q : ℕ) → q < k → get_or lives q 0 ≡ 1 → ((p : ℕ) → p < k → get_or lives p 0 ≡ 1 → p ≡ q) → ⊥
+  pub not_one : r ≡ k → (q : ℕ) → q < k → get_or lives q 0 ≡ 1 → ((p : ℕ) → p < k → get_or lives p 0 ≡ 1 → p ≡ q) → ⊥
 
 -- g is the lowest gate to which a live one of k slots leads, or b where none leads to a lower one
 abbrev pub LowestLed : List ℕ → List ℕ → ℕ → ℕ → ℕ → Type 0

@@ -1,9 +1,9 @@
 // The curve and the best increases of a block whose tree stands in words.
 ghost use Rattle.std.specs.Prelude.{◌≡◌, ℕ, ◌≤◌, ◌<◌, length, get_or};
 ghost use Rattle.lists.specs.Sum.{sum};
-ghost use Rattle.model.specs.Limits.{max-gates, max-steps, max-pairs, max-time};
+ghost use Rattle.model.specs.Limits.{max_gates, max_steps, max_pairs, max_time};
 ghost use Rattle.model.specs.Block.{Block};
-ghost use Rattle.spending.specs.TreeHeld.{tree-arrays, TreeHeld, RunsFound, CurveFound, IncreasesFound};
+ghost use Rattle.spending.specs.TreeHeld.{tree_arrays, TreeHeld, RunsFound, CurveFound, IncreasesFound};
 
 use blockwords::BLOCK_WORDS;
 use blockwords::gathering::gather;
@@ -30,7 +30,7 @@ const ALL_TICKS: u32 = 4_294_967_295;
 
 // How many steps n gates have together.
 fn step_count(n: usize, counts: &[u32]) -> usize
-    requires { (n ≤ max-gates) × (n ≤ length counts.now) × ((g : ℕ) → g < n → get_or counts.now g 0 ≤ max-steps) }
+    requires { (n ≤ max_gates) × (n ≤ length counts.now) × ((g : ℕ) → g < n → get_or counts.now g 0 ≤ max_steps) }
     ensures { result ≡ sum n (λ (g : ℕ). get_or counts.now g 0) }
 {
     let mut steps: usize = 0;
@@ -56,10 +56,10 @@ fn tree_runs(
     pair_widths: &mut [u32],
     pair_gains: &mut [u64],
 ) -> TreeCurve
-    requires tree_held { (B : Block) × TreeHeld B n (tree-arrays tree.now counts.now step_widths.now drops.now inputs.now delays.now) }
+    requires tree_held { (B : Block) × TreeHeld B n (tree_arrays tree.now counts.now step_widths.now drops.now inputs.now delays.now) }
     requires increases_len { length increases.old ≡ n }
-    requires max_pairs_in_bounds { (max-pairs ≤ length pair_widths.old) × (max-pairs ≤ length pair_gains.old) }
-    ensures { (B : Block) (held : TreeHeld B n (tree-arrays tree.now counts.now step_widths.now drops.now inputs.now delays.now)) → RunsFound B held.fits n (tree-arrays tree.now counts.now step_widths.now drops.now inputs.now delays.now) ticks increases.new pair_widths.old pair_gains.old pair_widths.new pair_gains.new result }
+    requires max_pairs_in_bounds { (max_pairs ≤ length pair_widths.old) × (max_pairs ≤ length pair_gains.old) }
+    ensures { (B : Block) (held : TreeHeld B n (tree_arrays tree.now counts.now step_widths.now drops.now inputs.now delays.now)) → RunsFound B held.fits n (tree_arrays tree.now counts.now step_widths.now drops.now inputs.now delays.now) ticks increases.new pair_widths.old pair_gains.old pair_widths.new pair_gains.new result }
 {
     let mut block = [0u32; BLOCK_WORDS];
     gather(n, counts, step_widths, drops, inputs, &mut block);
@@ -95,10 +95,10 @@ pub fn tree_curve(
     pair_widths: &mut [u32],
     pair_gains: &mut [u64],
 ) -> TreeCurve
-    requires tree_held { (B : Block) × TreeHeld B n (tree-arrays tree.now counts.now step_widths.now drops.now inputs.now delays.now) }
+    requires tree_held { (B : Block) × TreeHeld B n (tree_arrays tree.now counts.now step_widths.now drops.now inputs.now delays.now) }
     requires increases_len { length increases.old ≡ n }
-    requires max_pairs_in_bounds { (max-pairs ≤ length pair_widths.old) × (max-pairs ≤ length pair_gains.old) }
-    ensures { (B : Block) (held : TreeHeld B n (tree-arrays tree.now counts.now step_widths.now drops.now inputs.now delays.now)) → CurveFound B held.fits pair_widths.old pair_gains.old pair_widths.new pair_gains.new result }
+    requires max_pairs_in_bounds { (max_pairs ≤ length pair_widths.old) × (max_pairs ≤ length pair_gains.old) }
+    ensures { (B : Block) (held : TreeHeld B n (tree_arrays tree.now counts.now step_widths.now drops.now inputs.now delays.now)) → CurveFound B held.fits pair_widths.old pair_gains.old pair_widths.new pair_gains.new result }
 {
     tree_runs(
         ALL_TICKS,
@@ -127,9 +127,9 @@ pub fn tree_increases(
     delays: &[u32],
     increases: &mut [u32],
 ) -> u64
-    requires tree_held { (B : Block) × TreeHeld B n (tree-arrays tree.now counts.now step_widths.now drops.now inputs.now delays.now) }
-    requires increases_len { (length increases.old ≡ n) × (ticks ≤ max-time) }
-    ensures { (B : Block) (held : TreeHeld B n (tree-arrays tree.now counts.now step_widths.now drops.now inputs.now delays.now)) → IncreasesFound B held.fits ticks increases.new result }
+    requires tree_held { (B : Block) × TreeHeld B n (tree_arrays tree.now counts.now step_widths.now drops.now inputs.now delays.now) }
+    requires increases_len { (length increases.old ≡ n) × (ticks ≤ max_time) }
+    ensures { (B : Block) (held : TreeHeld B n (tree_arrays tree.now counts.now step_widths.now drops.now inputs.now delays.now)) → IncreasesFound B held.fits ticks increases.new result }
 {
     let mut pair_widths = [0u32; MAX_PAIRS];
     let mut pair_gains = [0u64; MAX_PAIRS];

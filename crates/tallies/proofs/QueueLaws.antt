@@ -1,4 +1,4 @@
--- Gates put in the queue one after another (`lined-up-more`), the queue's tail, and what the answer of `waits` says (`says-waits`). Assumes nothing.
+-- Gates put in the queue one after another (`lined_up_more`), the queue's tail, and what the answer of `waits` says (`says_waits`). Assumes nothing.
 use mathlib.Core.Path.{◌≡◌, refl, ◌∙◌}
 use mathlib.Core.Bool.{Bool, true, false}
 use mathlib.Core.List.{List}
@@ -9,23 +9,23 @@ use borrow.Author.Tests.{eq-eqb, ne_eqb}
 use lib.ListN.{length, get_or, set}
 use lib.Seq.{get_or-set_same, get_or-set_other}
 use Rattle.lists.specs.Search.{Says}
-use Rattle.tallies.specs.Queue.{CanGo, LinedUp, Waits, tail-after}
+use Rattle.tallies.specs.Queue.{CanGo, LinedUp, Waits, tail_after}
 
 -- one gate more in the queue
-pub lined-up-more : (queue places : List ℕ) (g : ℕ) → g < length queue → g < length places → LinedUp g queue places → LinedUp (g + 1) (set queue g g) (set places g g)
-lined-up-more queue places g a b u q h = go (ℕ_discrete q g)
+pub lined_up_more : (queue places : List ℕ) (g : ℕ) → g < length queue → g < length places → LinedUp g queue places → LinedUp (g + 1) (set queue g g) (set places g g)
+lined_up_more queue places g a b u q h = go (ℕ_discrete q g)
   where
     go : Dec (q ≡ g) → (get_or (set queue g g) q 0 ≡ q) × (get_or (set places g g) q 0 ≡ q)
     go (yes e) = rw e (get_or-set_same queue g g 0 a, get_or-set_same places g g 0 b)
     go (no d) = let (x, y) = u q (omega arith) in (get_or-set_other queue g q g 0 d ∙ x, get_or-set_other places g q g 0 d ∙ y)
 
-pub tail-stays : (c r tail : ℕ) → r ≡ c → tail ≡ tail-after c r tail
-tail-stays c r tail e = rw (eq-eqb r c e) refl
+pub tail_stays : (c r tail : ℕ) → r ≡ c → tail ≡ tail_after c r tail
+tail_stays c r tail e = rw (eq-eqb r c e) refl
 
-pub tail-goes : (c r tail : ℕ) → (r ≡ c → ⊥) → tail + 2 ≡ tail-after c r tail
-tail-goes c r tail d = rw (ne_eqb r c d) refl
+pub tail_goes : (c r tail : ℕ) → (r ≡ c → ⊥) → tail + 2 ≡ tail_after c r tail
+tail_goes c r tail d = rw (ne_eqb r c d) refl
 
 -- at its place, a gate waits where it can go
-pub says-waits : (ins outs places : List ℕ) (a b head m : ℕ) (r : Bool) → get_or places m 0 ≡ head → Says (CanGo ins outs a b m) r → Says (Waits ins outs places a b head m) r
-says-waits ins outs places a b head m true e s = record { place = e; can = s }
-says-waits ins outs places a b head m false e s = λ w. s w.can
+pub says_waits : (ins outs places : List ℕ) (a b head m : ℕ) (r : Bool) → get_or places m 0 ≡ head → Says (CanGo ins outs a b m) r → Says (Waits ins outs places a b head m) r
+says_waits ins outs places a b head m true e s = record { place = e; can = s }
+says_waits ins outs places a b head m false e s = λ w. s w.can

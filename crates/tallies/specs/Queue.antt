@@ -1,11 +1,11 @@
 -- Which gates can go by their tallies, and the queue in which they wait.
 use Rattle.std.specs.Prelude.{◌≡◌, ◌≢◌, cond, List, ℕ, ◌+◌, ◌≤◌, ◌<◌, eqb, get_or}
-use Rattle.model.specs.Limits.{max-wires}
+use Rattle.model.specs.Limits.{max_wires}
 
 -- a tally of one slot
 pub record One (t : ℕ) : Type 0 where
-  pub some : max-wires ≤ t
-  pub no-two : t < max-wires + max-wires
+  pub some : max_wires ≤ t
+  pub no_two : t < max_wires + max_wires
 
 -- By the tallies, gate m can go, which is neither a nor b: one slot leads to it and one from it.
 pub record CanGo (ins outs : List ℕ) (a b m : ℕ) : Type 0 where
@@ -24,5 +24,5 @@ pub record Waits (ins outs places : List ℕ) (a b head m : ℕ) : Type 0 where
   pub can : CanGo ins outs a b m
 
 -- the queue's tail once two gates have joined it, where a gate has gone
-abbrev pub tail-after : ℕ → ℕ → ℕ → ℕ
-tail-after c r tail = cond (eqb r c) tail (tail + 2)
+abbrev pub tail_after : ℕ → ℕ → ℕ → ℕ
+tail_after c r tail = cond (eqb r c) tail (tail + 2)

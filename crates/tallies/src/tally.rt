@@ -1,8 +1,8 @@
 // Tallies of gates: for each live slot that ends at a gate, MAX_WIRES and the number of the slot.
 ghost use Rattle.std.specs.Prelude.{◌≡◌, List, ℕ, ◌+◌, ◌-◌, ◌^◌, ◌≤◌, ◌<◌, length, get_or, set};
 ghost use Rattle.lists.specs.Search.{Says};
-ghost use Rattle.model.specs.Limits.{max-wires};
-ghost use Rattle.tallies.specs.Tallies.{share, TalliedBy, settled, kept-share};
+ghost use Rattle.model.specs.Limits.{max_wires};
+ghost use Rattle.tallies.specs.Tallies.{share, TalliedBy, settled, kept_share};
 ghost use Rattle.tallies.specs.Queue.{CanGo};
 
 use model::limits::MAX_WIRES;
@@ -26,7 +26,7 @@ fn clear(tallies: &mut [u32], n: usize)
 
 // Slot i is counted at its end.
 fn count(ends: &[u32], tallies: &mut [u32], i: usize)
-    requires i_lt_max_wires { (i < max-wires) × (i < length ends.now) }
+    requires i_lt_max_wires { (i < max_wires) × (i < length ends.now) }
     requires i_in_bounds { get_or ends.now i 0 < length tallies.old }
     requires i_bound { get_or tallies.old (get_or ends.now i 0) 0 < 2 ^ 31 }
     ensures { tallies.new ≡ set tallies.old (get_or ends.now i 0) (get_or tallies.old (get_or ends.now i 0) 0 + share i) }
@@ -37,7 +37,7 @@ fn count(ends: &[u32], tallies: &mut [u32], i: usize)
 
 // The tallies of n gates by the first k slots, all of them live, of which `ends` holds one end.
 pub fn tally(ends: &[u32], tallies: &mut [u32], k: usize, n: usize)
-    requires k_le_max_wires { (k ≤ max-wires) × (k ≤ length ends.now) }
+    requires k_le_max_wires { (k ≤ max_wires) × (k ≤ length ends.now) }
     requires n_in_bounds { n ≤ length tallies.old }
     requires by_index { (i : ℕ) → i < k → get_or ends.now i 0 < n }
     ensures { (lives : List ℕ) → ((i : ℕ) → i < k → get_or lives i 0 ≡ 1) → TalliedBy lives ends.now n k tallies.new }
@@ -80,16 +80,16 @@ pub(crate) fn can_go(ins: &[u32], outs: &[u32], m: usize, first: usize, last: us
 // The only slot at gate m, which its tally names.
 pub fn only_slot(tallies: &[u32], m: usize) -> usize
     requires m_in_bounds { m < length tallies.now }
-    requires max_wires_bound { max-wires ≤ get_or tallies.now m 0 }
-    ensures { result ≡ get_or tallies.now m 0 - max-wires }
+    requires max_wires_bound { max_wires ≤ get_or tallies.now m 0 }
+    ensures { result ≡ get_or tallies.now m 0 - max_wires }
 {
     tallies[m] as usize - MAX_WIRES
 }
 
 // What slot i counts at its new end, where r nodes stand after c: nothing if another slot has taken it up.
 pub fn kept_share(c: usize, r: usize, i: usize) -> u32
-    requires { (c + 1 < 2 ^ 32) × (i < max-wires) }
-    ensures { result ≡ kept-share c r i }
+    requires { (c + 1 < 2 ^ 32) × (i < max_wires) }
+    ensures { result ≡ kept_share c r i }
 {
     if r == c + 1 {
         return (MAX_WIRES + i) as u32;

@@ -15,15 +15,15 @@ module _ (z : ℤ) (small : SFits w32 z) (natural : Natural z) where
   read : to_z w32 (of_z w32 z) ≡ pos natural.0
   read = to_z-of_z w32 z small ∙ natural.1
 
-  pub natural-fits : T (non_neg (to_z w32 (of_z w32 z))) × Fits w64 (nat_abs (to_z w32 (of_z w32 z)))
-  natural-fits = rw read (tt, record { fits = omega (arith, (rw natural.1 at small).sfits) })
+  pub natural_fits : T (non_neg (to_z w32 (of_z w32 z))) × Fits w64 (nat_abs (to_z w32 (of_z w32 z)))
+  natural_fits = rw read (tt, record { fits = omega (arith, (rw natural.1 at small).sfits) })
 
-  pub natural-same : z ≡ pos (nat_abs (to_z w32 (of_z w32 z)))
-  natural-same = rw read natural.1
+  pub natural_same : z ≡ pos (nat_abs (to_z w32 (of_z w32 z)))
+  natural_same = rw read natural.1
 
   -- what is read of it once it is stored needs no sign either, and is the same number
-  pub natural-read : Natural (to_z w32 (of_z w32 z))
-  natural-read = (natural.0, read)
+  pub natural_read : Natural (to_z w32 (of_z w32 z))
+  natural_read = (natural.0, read)
 
   pub read_same : {k : ℕ} → to_z w32 (of_z w32 z) ≡ pos k → z ≡ pos k
   read_same e = sym (to_z-of_z w32 z small) ∙ e

@@ -1,5 +1,5 @@
 -- Laws of `Written`: what a writing call promises where there is room, no text, a text behind another, a byte behind a text, and a text at the front.
--- The idea: a text behind another is the two in one (`placed-behind`).
+-- The idea: a text behind another is the two in one (`placed_behind`).
 -- Assumes nothing.
 use mathlib.Core.Path.{◌≡◌, refl, sym, ◌∙◌, ap, subst}
 use mathlib.Core.List.{List, [], ◌∷◌, ◌++◌, append-nil}
@@ -12,17 +12,17 @@ use lib.Seq.{append_snoc, set_split}
 use Rattle.lists.specs.Over.{over}
 use Rattle.decimal.specs.Placed as at_place
 use Rattle.decimal.specs.Placed.{placed}
-use Rattle.decimal.proofs.Placed.{placed-fits, behind-fits, length-placed, placed-behind}
+use Rattle.decimal.proofs.Placed.{placed_fits, behind_fits, length_placed, placed_behind}
 use Rattle.text.specs.Written.{Written}
 
 -- where there is room, a call that promises `placed` and `behind` writes
-pub with-room : {text : List ℕ} {at : ℕ} {old new : List ℕ} {next : ℕ} → at + length text ≤ length old
+pub with_room : {text : List ℕ} {at : ℕ} {old new : List ℕ} {next : ℕ} → at + length text ≤ length old
     → next ≡ at_place.behind text at old → new ≡ placed text at old
     → Written text at old new next
-with-room {text} {at} {old} h p e = record { fits = h; behind = p ∙ behind-fits text at old h; stands = e }
+with_room {text} {at} {old} h p e = record { fits = h; behind = p ∙ behind_fits text at old h; stands = e }
 
 pub same_length : {text : List ℕ} {at : ℕ} {old new : List ℕ} {next : ℕ} → Written text at old new next → length new ≡ length old
-same_length {text} {at} {old} w = ap length w.stands ∙ length-placed text at old
+same_length {text} {at} {old} w = ap length w.stands ∙ length_placed text at old
 
 -- no text
 pub nothing : (at : ℕ) (old : List ℕ) → at ≤ length old → Written [] at old old at
@@ -30,7 +30,7 @@ nothing at old h =
     record {
       fits = omega arith;
       behind = sym (add-zero at);
-      stands = rw (placed-fits [] at old (omega arith), add-zero at, append-nil (take at old)) (sym (take-append-drop at old));
+      stands = rw (placed_fits [] at old (omega arith), add-zero at, append-nil (take at old)) (sym (take-append-drop at old));
     }
 
 -- a text behind another
@@ -45,7 +45,7 @@ then {a} {b} {at} {mid} {next} {old} {between} {new} v w =
     record {
       fits = fits;
       behind = omega (arith, v.behind, w.behind);
-      stands = w.stands ∙ rw (v.behind, v.stands) (placed-behind a b at old fits);
+      stands = w.stands ∙ rw (v.behind, v.stands) (placed_behind a b at old fits);
     }
 
 -- one byte
@@ -54,15 +54,15 @@ byte b at old h =
     record {
       fits = omega arith;
       behind = refl;
-      stands = set_split old at b h ∙ rw (placed-fits (b ∷ []) at old (omega arith), add-one at) (sym (append_snoc (take at old) b (drop (suc at) old)));
+      stands = set_split old at b h ∙ rw (placed_fits (b ∷ []) at old (omega arith), add-one at) (sym (append_snoc (take at old) b (drop (suc at) old)));
     }
 
 -- the same text, written in another way
-pub as-text : {a b : List ℕ} {at : ℕ} {old new : List ℕ} {next : ℕ} → a ≡ b → Written a at old new next → Written b at old new next
-as-text {a} {b} {at} {old} {new} {next} e w = subst (λ (t : List ℕ). Written t at old new next) e w
+pub as_text : {a b : List ℕ} {at : ℕ} {old new : List ℕ} {next : ℕ} → a ≡ b → Written a at old new next → Written b at old new next
+as_text {a} {b} {at} {old} {new} {next} e w = subst (λ (t : List ℕ). Written t at old new next) e w
 
 -- at the front: the text, and behind it what stood there before
 pub front : {text old new : List ℕ} {next : ℕ} → Written text 0 old new next → (next ≡ length text) × (new ≡ over text old)
 unfolding over
 front {text} {old} w =
-    (w.behind ∙ zero-add (length text), w.stands ∙ placed-fits text 0 old w.fits ∙ rw (zero-add (length text)))
+    (w.behind ∙ zero-add (length text), w.stands ∙ placed_fits text 0 old w.fits ∙ rw (zero-add (length text)))

@@ -1,9 +1,9 @@
 // The lines of the printout: a refusal, the head of a block, and its gates.
 ghost use Rattle.std.specs.Prelude.{◌++◌, ◌+◌, ◌*◌, ◌≤◌, pos, length};
-ghost use Rattle.model.specs.Limits.{max-gates};
-ghost use Rattle.model.specs.Printout.{refusal-line, head-text, gate-text, gate-texts};
-ghost use Rattle.text.specs.Written.{Written, refusal-room, head-room, gate-room, block_room};
-ghost use Rattle.text.specs.Numbers.{Listed, listed-line};
+ghost use Rattle.model.specs.Limits.{max_gates};
+ghost use Rattle.model.specs.Printout.{refusal_line, head_text, gate_text, gate_texts};
+ghost use Rattle.text.specs.Written.{Written, refusal_room, head_room, gate_room, block_room};
+ghost use Rattle.text.specs.Numbers.{Listed, listed_line};
 
 use crate::number::{natural, wide};
 use crate::pieces::{NAMED_ROOM, NUMBER_ROOM, write_named, write_number};
@@ -16,8 +16,8 @@ pub const GATE_ROOM: usize = 4 * NUMBER_ROOM;
 
 // Writes the line of a refusal to the front of the slice and answers its length.
 pub fn write_refusal(number: u64, place: u64, out: &mut [u8]) -> usize
-    requires { refusal-room ≤ length out.old }
-    ensures { Written (refusal-line number place) 0 out.old out.new result }
+    requires { refusal_room ≤ length out.old }
+    ensures { Written (refusal_line number place) 0 out.old out.new result }
 {
     let next = write_named(b"refused ", number, b' ', out, 0);
     write_number(place, b'\n', out, next)
@@ -35,8 +35,8 @@ pub struct Head {
 
 // Writes the three head lines of a block's printout to the front of the slice and answers their length.
 fn write_head(head: Head, out: &mut [u8]) -> usize
-    requires { head-room ≤ length out.old }
-    ensures { (result ≤ head-room) × Written (head-text head.gates head.wires head.start (pos head.spare) head.saving) 0 out.old out.new result }
+    requires { head_room ≤ length out.old }
+    ensures { (result ≤ head_room) × Written (head_text head.gates head.wires head.start (pos head.spare) head.saving) 0 out.old out.new result }
 {
     let mut next = write_named(b"gates ", head.gates as u64, b' ', out, 0);
     next = write_named(b"wires ", head.wires as u64, b'\n', out, next);
@@ -47,8 +47,8 @@ fn write_head(head: Head, out: &mut [u8]) -> usize
 
 // Writes the line of gate g at place `at` and answers the place behind it.
 fn write_gate(g: u64, delay: u64, increase: u64, slack: u64, out: &mut [u8], at: usize) -> usize
-    requires { at + gate-room ≤ length out.old }
-    ensures { (result ≤ at + gate-room) × Written (gate-text g delay increase (pos slack)) at out.old out.new result }
+    requires { at + gate_room ≤ length out.old }
+    ensures { (result ≤ at + gate_room) × Written (gate_text g delay increase (pos slack)) at out.old out.new result }
 {
     let mut next = write_number(g, b' ', out, at);
     next = write_number(delay, b' ', out, next);
@@ -65,8 +65,8 @@ fn write_gates(
     out: &mut [u8],
     at: usize,
 ) -> usize
-    requires { (at + gate-room * n ≤ length out.old) × Listed n delays.now increases.now slacks.now }
-    ensures { (result ≤ at + gate-room * n) × Written (gate-texts (listed-line delays.now increases.now slacks.now) n) at out.old out.new result }
+    requires { (at + gate_room * n ≤ length out.old) × Listed n delays.now increases.now slacks.now }
+    ensures { (result ≤ at + gate_room * n) × Written (gate_texts (listed_line delays.now increases.now slacks.now) n) at out.old out.new result }
 {
     let mut next = at;
     let mut g = 0;
@@ -92,8 +92,8 @@ pub fn write_block(
     slacks: &[i32],
     out: &mut [u8],
 ) -> usize
-    requires { (head.gates ≤ max-gates) × (block_room ≤ length out.old) × Listed head.gates delays.now increases.now slacks.now }
-    ensures { (result ≤ block_room) × Written (head-text head.gates head.wires head.start (pos head.spare) head.saving ++ gate-texts (listed-line delays.now increases.now slacks.now) head.gates) 0 out.old out.new result }
+    requires { (head.gates ≤ max_gates) × (block_room ≤ length out.old) × Listed head.gates delays.now increases.now slacks.now }
+    ensures { (result ≤ block_room) × Written (head_text head.gates head.wires head.start (pos head.spare) head.saving ++ gate_texts (listed_line delays.now increases.now slacks.now) head.gates) 0 out.old out.new result }
 {
     let next = write_head(head, out);
     write_gates(head.gates, delays, increases, slacks, out, next)

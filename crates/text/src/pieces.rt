@@ -2,7 +2,7 @@
 ghost use Rattle.std.specs.Prelude.{◌≡◌, [], ◌∷◌, ◌++◌, ◌+◌, ◌≤◌, length};
 ghost use Rattle.model.specs.Printout.{digits};
 ghost use Rattle.decimal.specs.Placed.{placed, behind};
-ghost use Rattle.text.specs.Written.{Written, number-room, word_room, named-room};
+ghost use Rattle.text.specs.Written.{Written, number_room, word_room, named_room};
 
 use decimal::write_digits;
 
@@ -32,8 +32,8 @@ fn write_bytes(word: &[u8], out: &mut [u8], at: usize) -> usize
 
 // Writes the digits of n at place `at` and the byte `end` behind them, and answers the place behind that.
 pub fn write_number(n: u64, end: u8, out: &mut [u8], at: usize) -> usize
-    requires { at + number-room ≤ length out.old }
-    ensures { (result ≤ at + number-room) × Written (digits n ++ end ∷ []) at out.old out.new result }
+    requires { at + number_room ≤ length out.old }
+    ensures { (result ≤ at + number_room) × Written (digits n ++ end ∷ []) at out.old out.new result }
 {
     let next = write_digits(n, out, at);
     out[next] = end;
@@ -42,8 +42,8 @@ pub fn write_number(n: u64, end: u8, out: &mut [u8], at: usize) -> usize
 
 // Writes a word at place `at`, the digits of n behind it and the byte `end` behind them, and answers the place behind that.
 pub fn write_named(word: &[u8], n: u64, end: u8, out: &mut [u8], at: usize) -> usize
-    requires { (length word.now ≤ word_room) × (at + named-room ≤ length out.old) }
-    ensures { (result ≤ at + named-room) × Written (word.now ++ digits n ++ end ∷ []) at out.old out.new result }
+    requires { (length word.now ≤ word_room) × (at + named_room ≤ length out.old) }
+    ensures { (result ≤ at + named_room) × Written (word.now ++ digits n ++ end ∷ []) at out.old out.new result }
 {
     let next = write_bytes(word, out, at);
     write_number(n, end, out, next)

@@ -9,35 +9,35 @@ use borrow.Author.Tests.{lt-ltb, le-ltb, eq-eqb, ne_eqb}
 use Rattle.optimum.specs.Head.{Head, leads, turn, best_of}
 
 -- the answer of `leads`, by the two gains
-pub leads-more : (a b : Head) → b.gain < a.gain → true ≡ leads a b
+pub leads_more : (a b : Head) → b.gain < a.gain → true ≡ leads a b
 unfolding leads
-leads-more a b l = rw (lt-ltb b.gain a.gain l) refl
+leads_more a b l = rw (lt-ltb b.gain a.gain l) refl
 
-pub leads-same : (a b : Head) → a.gain ≡ b.gain → ltb a.rank b.rank ≡ leads a b
+pub leads_same : (a b : Head) → a.gain ≡ b.gain → ltb a.rank b.rank ≡ leads a b
 unfolding leads
-leads-same a b e =
+leads_same a b e =
     let l : a.gain ≤ b.gain = omega arith in
     rw (le-ltb b.gain a.gain l, eq-eqb a.gain b.gain e) refl
 
-pub leads-less : (a b : Head) → a.gain < b.gain → false ≡ leads a b
+pub leads_less : (a b : Head) → a.gain < b.gain → false ≡ leads a b
 unfolding leads
-leads-less a b l =
+leads_less a b l =
     let m : a.gain ≤ b.gain = omega arith in
     rw (le-ltb b.gain a.gain m, ne_eqb a.gain b.gain (λ e. omega arith)) refl
 
 -- the best of three heads, by the answers of `leads`
-pub best-is-last : (a b c : Head) → leads b a ≡ true → leads c b ≡ true → c ≡ best_of a b c
+pub best_is_last : (a b c : Head) → leads b a ≡ true → leads c b ≡ true → c ≡ best_of a b c
 unfolding turn
-best-is-last a b c e k = rw (e, k) refl
+best_is_last a b c e k = rw (e, k) refl
 
-pub best-is-middle : (a b c : Head) → leads b a ≡ true → leads c b ≡ false → b ≡ best_of a b c
+pub best_is_middle : (a b c : Head) → leads b a ≡ true → leads c b ≡ false → b ≡ best_of a b c
 unfolding turn
-best-is-middle a b c e k = rw (e, k) refl
+best_is_middle a b c e k = rw (e, k) refl
 
-pub last-passes : (a b c : Head) → leads b a ≡ false → leads c a ≡ true → c ≡ best_of a b c
+pub last_passes : (a b c : Head) → leads b a ≡ false → leads c a ≡ true → c ≡ best_of a b c
 unfolding turn
-last-passes a b c e k = rw (e, k) refl
+last_passes a b c e k = rw (e, k) refl
 
-pub best-is-first : (a b c : Head) → leads b a ≡ false → leads c a ≡ false → a ≡ best_of a b c
+pub best_is_first : (a b c : Head) → leads b a ≡ false → leads c a ≡ false → a ≡ best_of a b c
 unfolding turn
-best-is-first a b c e k = rw (e, k) refl
+best_is_first a b c e k = rw (e, k) refl

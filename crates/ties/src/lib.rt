@@ -1,7 +1,7 @@
 // The order of ties in code: the rank of a gate, the comparison of two heads, the best of three heads, and two heads side by side.
 // A head's gain and rank are one number, its key, so that one comparison tells which of two heads comes first.
 ghost use Rattle.std.specs.Prelude.{◌≡◌, ◌+◌, ◌-◌, ◌/◌, ◌%◌, ◌<◌, ◌^◌, min, max};
-ghost use Rattle.optimum.specs.Head.{no-head, rank as ranking, leads as comes_first, best_of, beside as side_by_side};
+ghost use Rattle.optimum.specs.Head.{no_head, rank as ranking, leads as comes_first, best_of, beside as side_by_side};
 ghost use Rattle.ties.specs.Code.{ranks, head_of};
 
 // One more than the greatest rank in a key.
@@ -27,7 +27,7 @@ pub fn keyed(width: u64, gain: u64, rank: u64) -> Head
 
 // The head that says that there is none.
 pub fn none() -> Head
-    ensures { head_of result ≡ no-head }
+    ensures { head_of result ≡ no_head }
 {
     keyed(0, 0, 0)
 }

@@ -8,23 +8,23 @@ use lib.IntN.{ℤ, pos, ◌-ℤ◌}
 use mir.Syntax.{w32}
 use mir.Val.{SFits, to_z, of_z}
 use mir.ValLaws.{to_z_pos, to_z-of_z}
-use Rattle.lists.proofs.Compare.{le-or-lt}
-use Rattle.model.proofs.Signed.{difference-pos, difference-neg}
+use Rattle.lists.proofs.Compare.{le_or_lt}
+use Rattle.model.proofs.Signed.{difference_pos, difference_neg}
 
 module _ (a b : ℕ) (ha : a < 2147483648) (hb : b < 2147483648) where
   fits : SFits w32 (pos a -ℤ pos b)
-  fits = by (le-or-lt b a)
+  fits = by (le_or_lt b a)
     where
       by : (b ≤ a) ⊎ (a < b) → SFits w32 (pos a -ℤ pos b)
-      by (inl h) = rw (difference-pos a b h) (record { sfits = omega arith })
-      by (inr h) = rw (difference-neg a b h) (record { sfits = omega arith })
+      by (inl h) = rw (difference_pos a b h) (record { sfits = omega arith })
+      by (inr h) = rw (difference_neg a b h) (record { sfits = omega arith })
 
-  pub difference-fits : SFits w32 (to_z w32 a -ℤ to_z w32 b)
-  difference-fits = rw (to_z_pos w32 a ha, to_z_pos w32 b hb) fits
+  pub difference_fits : SFits w32 (to_z w32 a -ℤ to_z w32 b)
+  difference_fits = rw (to_z_pos w32 a ha, to_z_pos w32 b hb) fits
 
-  pub difference-read : to_z w32 (of_z w32 (to_z w32 a -ℤ to_z w32 b)) ≡ pos a -ℤ pos b
-  difference-read = to_z-of_z w32 (to_z w32 a -ℤ to_z w32 b) difference-fits ∙ rw (to_z_pos w32 a ha, to_z_pos w32 b hb)
+  pub difference_read : to_z w32 (of_z w32 (to_z w32 a -ℤ to_z w32 b)) ≡ pos a -ℤ pos b
+  difference_read = to_z-of_z w32 (to_z w32 a -ℤ to_z w32 b) difference_fits ∙ rw (to_z_pos w32 a ha, to_z_pos w32 b hb)
 
   -- what is read back of the difference once it is stored
-  pub difference-stored : (r : ℤ) → r ≡ pos a -ℤ pos b → to_z w32 (of_z w32 r) ≡ pos a -ℤ pos b
-  difference-stored r e = rw e (to_z-of_z w32 (pos a -ℤ pos b) fits)
+  pub difference_stored : (r : ℤ) → r ≡ pos a -ℤ pos b → to_z w32 (of_z w32 r) ≡ pos a -ℤ pos b
+  difference_stored r e = rw e (to_z-of_z w32 (pos a -ℤ pos b) fits)

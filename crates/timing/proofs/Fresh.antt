@@ -5,34 +5,34 @@ use mathlib.Core.List.{List}
 use Prim.Native.Nat.{ℕ}
 use native.Mathlib.Omega.{arith}
 use lib.ListN.{length}
-use Rattle.model.specs.Limits.{max-gates, max-wires}
-use Rattle.model.specs.InTime.{no-increase}
+use Rattle.model.specs.Limits.{max_gates, max_wires}
+use Rattle.model.specs.InTime.{no_increase}
 use Rattle.ordering.specs.Chain.{Chainable, Chained}
-use Rattle.ordering.proofs.Chains.{zeros-chainable}
+use Rattle.ordering.proofs.Chains.{zeros_chainable}
 use Rattle.timing.specs.Times.{Timeable, Ready}
 
-module _ (n m : ℕ) (order sources targets wire-delays gate-delays : List ℕ) (base : ℕ) (times : List ℕ) (able : Timeable n m order sources targets wire-delays gate-delays base times) where
-  pub fresh-chains : Chainable targets m (no-increase max-gates) (no-increase max-wires)
-  fresh-chains = zeros-chainable targets able.lent.gates able.lent.wires able.lent.targets-long able.lent.target-is-gate
+module _ (n m : ℕ) (order sources targets wire_delays gate_delays : List ℕ) (base : ℕ) (times : List ℕ) (able : Timeable n m order sources targets wire_delays gate_delays base times) where
+  pub fresh_chains : Chainable targets m (no_increase max_gates) (no_increase max_wires)
+  fresh_chains = zeros_chainable targets able.lent.gates able.lent.wires able.lent.targets_long able.lent.target_is_gate
 
-  pub once-chained : (heads links : List ℕ)
-      → length heads ≡ max-gates
-      → length links ≡ max-wires
+  pub once_chained : (heads links : List ℕ)
+      → length heads ≡ max_gates
+      → length links ≡ max_wires
       → Chained targets m heads links
-      → Ready n m order sources targets wire-delays gate-delays heads links base times
-  once-chained heads links h l chained =
+      → Ready n m order sources targets wire_delays gate_delays heads links base times
+  once_chained heads links h l chained =
       record {
         ordered = able.ordered;
-        order-long = able.order-long;
+        order_long = able.order_long;
         delays = able.delays;
-        base-small = able.base-small;
+        base_small = able.base_small;
         walkable =
             record {
               lent = able.lent;
-              wires-long = able.delays.wires-long;
-              of-wire = able.delays.of-wire;
-              heads-long = omega (arith, able.lent.gates);
-              links-long = omega (arith, able.lent.wires);
+              wires_long = able.delays.wires_long;
+              of_wire = able.delays.of_wire;
+              heads_long = omega (arith, able.lent.gates);
+              links_long = omega (arith, able.lent.wires);
               chained = chained;
               times_long = able.times_long;
               bounded = able.bounded;

@@ -10,19 +10,19 @@ use lib.ListN.{length, get_or, set}
 use lib.Seq.{get_or-set_same, get_or-set_other}
 use Rattle.lists.specs.Over.{build}
 use Rattle.model.specs.Block.{Wire}
-use Rattle.model.specs.Arrays.{wire-at, wires-in}
+use Rattle.model.specs.Arrays.{wire_at, wires_in}
 use Rattle.model.proofs.Turned.{turned, turn}
 use Rattle.ordering.specs.Wires.{Lent, Wired}
 use Rattle.ordering.specs.Order.{Order}
 use Rattle.timing.specs.Slacks.{Reversed}
 
 -- one element more is turned
-pub reversed-more : (n k : ℕ) (order back : List ℕ) → k < n → k < length back
+pub reversed_more : (n k : ℕ) (order back : List ℕ) → k < n → k < length back
     → ((j : ℕ) → j < k → get_or back j 0 ≡ get_or order (n - suc j) 0)
     → (j : ℕ)
     → j < k + 1
     → get_or (set back k (get_or order (n - 1 - k) 0)) j 0 ≡ get_or order (n - suc j) 0
-reversed-more n k order back h l before j m =
+reversed_more n k order back h l before j m =
     let above : j < suc k = omega arith in
     ⊎_elim
     (λ (e : j ≡ k).
@@ -31,48 +31,48 @@ reversed-more n k order back h l before j m =
     (λ (b : j < k). get_or-set_other back k j (get_or order (n - 1 - k) 0) 0 (λ (q : j ≡ k). omega arith) ∙ before j b)
     (eq-or-lt_of_le (le_of_suc-le-suc above))
 
-pub order-reversed : (n m : ℕ) (sources targets order back : List ℕ) → Reversed n order back → Order (Wired m sources targets) n order → Lent n m sources targets → Order (Wired m targets sources) n back
-order-reversed n m sources targets order back reversed ordered lent =
+pub order_reversed : (n m : ℕ) (sources targets order back : List ℕ) → Reversed n order back → Order (Wired m sources targets) n order → Lent n m sources targets → Order (Wired m targets sources) n back
+order_reversed n m sources targets order back reversed ordered lent =
     record {
       place = λ (g : ℕ). n - suc (ordered.place g);
-      names-gate = λ (k : ℕ) (h : k < n). rw (reversed k h) (ordered.names-gate (n - suc k) (omega arith));
+      names_gate = λ (k : ℕ) (h : k < n). rw (reversed k h) (ordered.names_gate (n - suc k) (omega arith));
       place_of =
           λ (k : ℕ) (h : k < n).
           rw (reversed k h, ordered.place_of (n - suc k) (omega arith)) (omega arith);
-      has-place = λ (g : ℕ) (h : g < n). omega (arith, ordered.has-place g h);
-      stands-there =
+      has_place = λ (g : ℕ) (h : g < n). omega (arith, ordered.has_place g h);
+      stands_there =
           λ (g : ℕ) (h : g < n).
-          let at : n - suc (n - suc (ordered.place g)) ≡ ordered.place g = omega (arith, ordered.has-place g h) in
-          reversed (n - suc (ordered.place g)) (omega (arith, ordered.has-place g h))
+          let at : n - suc (n - suc (ordered.place g)) ≡ ordered.place g = omega (arith, ordered.has_place g h) in
+          reversed (n - suc (ordered.place g)) (omega (arith, ordered.has_place g h))
           ∙ ap (λ (x : ℕ). get_or order x 0) at
-          ∙ ordered.stands-there g h;
+          ∙ ordered.stands_there g h;
       forward =
           λ (a b : ℕ) (w : Wired m targets sources a b).
-          let back-wire : Wired m sources targets b a = record { place = w.place; below = w.below; source = w.target; target = w.source } in
-          let in_block : a < n = rw w.source at (lent.target-is-gate w.place w.below) in
-          omega (arith, ordered.forward b a back-wire, ordered.has-place a in_block);
+          let back_wire : Wired m sources targets b a = record { place = w.place; below = w.below; source = w.target; target = w.source } in
+          let in_block : a < n = rw w.source at (lent.target_is_gate w.place w.below) in
+          omega (arith, ordered.forward b a back_wire, ordered.has_place a in_block);
     }
 
-pub lent-turned : (n m : ℕ) (sources targets : List ℕ) → Lent n m sources targets → Lent n m targets sources
-lent-turned n m sources targets lent =
+pub lent_turned : (n m : ℕ) (sources targets : List ℕ) → Lent n m sources targets → Lent n m targets sources
+lent_turned n m sources targets lent =
     record {
       gates = lent.gates;
       wires = lent.wires;
-      sources-long = lent.targets-long;
-      targets-long = lent.sources-long;
-      source-is-gate = lent.target-is-gate;
-      target-is-gate = lent.source-is-gate;
+      sources_long = lent.targets_long;
+      targets_long = lent.sources_long;
+      source_is_gate = lent.target_is_gate;
+      target_is_gate = lent.source_is_gate;
     }
 
-turn-append : (ws : List Wire) (w : Wire) → turn (ws ++ (w ∷ [])) ≡ turn ws ++ (turned w ∷ [])
+turn_append : (ws : List Wire) (w : Wire) → turn (ws ++ (w ∷ [])) ≡ turn ws ++ (turned w ∷ [])
 unfolding turn
-turn-append [] w = refl
-turn-append (v ∷ ws) w = ap (λ (rest : List Wire). turned v ∷ rest) (turn-append ws w)
+turn_append [] w = refl
+turn_append (v ∷ ws) w = ap (λ (rest : List Wire). turned v ∷ rest) (turn_append ws w)
 
 -- the arrays with sources and targets exchanged hold the turned wires
-pub turn-arrays : (m : ℕ) (sources targets delays : List ℕ) → turn (wires-in m sources targets delays) ≡ wires-in m targets sources delays
+pub turn_arrays : (m : ℕ) (sources targets delays : List ℕ) → turn (wires_in m sources targets delays) ≡ wires_in m targets sources delays
 unfolding build turn
-turn-arrays zero sources targets delays = refl
-turn-arrays (suc m) sources targets delays =
-    turn-append (wires-in m sources targets delays) (wire-at sources targets delays m)
-    ∙ ap (λ (rest : List Wire). rest ++ (wire-at targets sources delays m ∷ [])) (turn-arrays m sources targets delays)
+turn_arrays zero sources targets delays = refl
+turn_arrays (suc m) sources targets delays =
+    turn_append (wires_in m sources targets delays) (wire_at sources targets delays m)
+    ∙ ap (λ (rest : List Wire). rest ++ (wire_at targets sources delays m ∷ [])) (turn_arrays m sources targets delays)

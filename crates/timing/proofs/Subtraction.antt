@@ -9,22 +9,22 @@ use lib.ListN.{get_or, set}
 use mir.Syntax.{w32}
 use mir.Val.{to_z, of_z}
 use Rattle.lists.specs.Over.{build, over}
-use Rattle.lists.proofs.Over.{over-more}
+use Rattle.lists.proofs.Over.{over_more}
 use Rattle.timing.specs.Slacks.{left_at, Subtractable}
-use Rattle.timing.proofs.Differences.{difference-stored}
+use Rattle.timing.proofs.Differences.{difference_stored}
 
-module _ (n : ℕ) (times tails gate-delays : List ℕ) (deadline : ℕ) (old : List ℤ) (able : Subtractable n times tails gate-delays deadline old) where
-  pub through-small : (g : ℕ) → g < n → get_or times g 0 + (get_or tails g 0 - get_or gate-delays g 0) < 2147483648
-  through-small g h = omega (arith, able.times-small g h, able.tails-small g h)
+module _ (n : ℕ) (times tails gate_delays : List ℕ) (deadline : ℕ) (old : List ℤ) (able : Subtractable n times tails gate_delays deadline old) where
+  pub through_small : (g : ℕ) → g < n → get_or times g 0 + (get_or tails g 0 - get_or gate_delays g 0) < 2147483648
+  through_small g h = omega (arith, able.times_small g h, able.tails_small g h)
 
   -- one slack more is written: what is stored, and read back, is the difference
-  pub slack-written : (g : ℕ) (out : List ℤ) (r : ℤ) → g < n
-      → out ≡ over (build g (left_at times tails gate-delays deadline)) old
-      → r ≡ left_at times tails gate-delays deadline g
-      → set out g (to_z w32 (of_z w32 r)) ≡ over (build (g + 1) (left_at times tails gate-delays deadline)) old
-  slack-written g out r h e is =
+  pub slack_written : (g : ℕ) (out : List ℤ) (r : ℤ) → g < n
+      → out ≡ over (build g (left_at times tails gate_delays deadline)) old
+      → r ≡ left_at times tails gate_delays deadline g
+      → set out g (to_z w32 (of_z w32 r)) ≡ over (build (g + 1) (left_at times tails gate_delays deadline)) old
+  slack_written g out r h e is =
       rw (
-        difference-stored deadline (get_or times g 0 + (get_or tails g 0 - get_or gate-delays g 0)) (omega (arith, able.deadline-small)) (through-small g h) r is,
+        difference_stored deadline (get_or times g 0 + (get_or tails g 0 - get_or gate_delays g 0)) (omega (arith, able.deadline_small)) (through_small g h) r is,
         e,
       )
-      (over-more g (left_at times tails gate-delays deadline) old (omega (arith, able.out-long)))
+      (over_more g (left_at times tails gate_delays deadline) old (omega (arith, able.out_long)))

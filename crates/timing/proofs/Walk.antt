@@ -6,80 +6,80 @@ use Prim.Native.Nat.{ℕ, suc, ◌+◌, ◌-◌, ◌≤◌, ◌<◌, max}
 use native.Mathlib.Nat.{le_refl}
 use native.Mathlib.Omega.{arith}
 use lib.ListN.{get_or}
-use Rattle.model.specs.Arrays.{wires-in}
-use Rattle.model.proofs.Source.{latest-base}
-use Rattle.ordering.specs.Chain.{last-before, Chained}
-use Rattle.ordering.proofs.Chains.{last-leads-there, last-at-most}
-use Rattle.timing.proofs.Chains.{over_first, over_none, over_last, over-linked}
+use Rattle.model.specs.Arrays.{wires_in}
+use Rattle.model.proofs.Source.{latest_base}
+use Rattle.ordering.specs.Chain.{last_before, Chained}
+use Rattle.ordering.proofs.Chains.{last_leads_there, last_at_most}
+use Rattle.timing.proofs.Chains.{over_first, over_none, over_last, over_linked}
 
 module _ (sources targets delays times : List ℕ) (base g m : ℕ) where
   -- the latest time over the first k wires
-  abbrev first-wires : ℕ → ℕ
-  first-wires = over_first sources targets delays (λ (a : ℕ). get_or times a 0) base g
+  abbrev first_wires : ℕ → ℕ
+  first_wires = over_first sources targets delays (λ (a : ℕ). get_or times a 0) base g
 
   -- `latest` is the latest time so far, and `next` is one more than the wire to look at next, 0 at the chain's end
   pub record Walk (latest next : ℕ) : Type 0 where
     pub left : ℕ
     pub left_in : left ≤ m
-    pub next-is : next ≡ last-before targets left g
-    pub together : max latest (first-wires next) ≡ first-wires m
+    pub next_is : next ≡ last_before targets left g
+    pub together : max latest (first_wires next) ≡ first_wires m
     pub at_least : base ≤ latest
 
-  pub walk-starts : (heads links : List ℕ) (next : ℕ) → Chained targets m heads links → next ≡ get_or heads g 0 → Walk base next
-  walk-starts heads links next chained e =
-      let is : next ≡ last-before targets m g = e ∙ chained.head g in
+  pub walk_starts : (heads links : List ℕ) (next : ℕ) → Chained targets m heads links → next ≡ get_or heads g 0 → Walk base next
+  walk_starts heads links next chained e =
+      let is : next ≡ last_before targets m g = e ∙ chained.head g in
       record {
         left = m;
         left_in = le_refl m;
-        next-is = is;
+        next_is = is;
         together =
-            let all : first-wires m ≡ first-wires next = rw is (over_last sources targets delays (λ (a : ℕ). get_or times a 0) base g m) in
-            omega (arith, latest-base (wires-in m sources targets delays) (λ (a : ℕ). get_or times a 0) base g);
+            let all : first_wires m ≡ first_wires next = rw is (over_last sources targets delays (λ (a : ℕ). get_or times a 0) base g m) in
+            omega (arith, latest_base (wires_in m sources targets delays) (λ (a : ℕ). get_or times a 0) base g);
         at_least = le_refl base;
       }
 
   -- the next wire is among the m, and leads to the gate
   pub walk_at : (latest next : ℕ) → Walk latest next → 0 < next → (next - 1 < m) × (get_or targets (next - 1) 0 ≡ g)
   walk_at latest next w h =
-      let one : last-before targets w.left g ≡ suc (next - 1) = sym w.next-is ∙ omega arith in
-      let r = last-leads-there targets w.left g (next - 1) one in
+      let one : last_before targets w.left g ≡ suc (next - 1) = sym w.next_is ∙ omega arith in
+      let r = last_leads_there targets w.left g (next - 1) one in
       (omega (arith, r.0, w.left_in), r.1)
 
-  pub walk-goes-on : (heads links : List ℕ) (latest next later further : ℕ)
+  pub walk_goes_on : (heads links : List ℕ) (latest next later further : ℕ)
       → Chained targets m heads links
       → Walk latest next
       → 0 < next
       → later ≡ max latest (get_or times (get_or sources (next - 1) 0) 0 + get_or delays (next - 1) 0)
       → further ≡ get_or links (next - 1) 0
       → Walk later further
-  walk-goes-on heads links latest next later further chained w h e l =
+  walk_goes_on heads links latest next later further chained w h e l =
       let at = walk_at latest next w h in
       let i = next - 1 in
-      let is : further ≡ last-before targets i g = l ∙ chained.link i at.0 ∙ ap (last-before targets i) at.1 in
-      let linked = over-linked sources targets delays (λ (a : ℕ). get_or times a 0) base g i at.1 in
-      let suc-i : suc i ≡ next = omega arith in
-      let linked-next : first-wires next ≡ max (get_or times (get_or sources i 0) 0 + get_or delays i 0) (first-wires i) = rw suc-i at linked in
-      let rest : first-wires i ≡ first-wires further = rw is (over_last sources targets delays (λ (a : ℕ). get_or times a 0) base g i) in
+      let is : further ≡ last_before targets i g = l ∙ chained.link i at.0 ∙ ap (last_before targets i) at.1 in
+      let linked = over_linked sources targets delays (λ (a : ℕ). get_or times a 0) base g i at.1 in
+      let suc_i : suc i ≡ next = omega arith in
+      let linked_next : first_wires next ≡ max (get_or times (get_or sources i 0) 0 + get_or delays i 0) (first_wires i) = rw suc_i at linked in
+      let rest : first_wires i ≡ first_wires further = rw is (over_last sources targets delays (λ (a : ℕ). get_or times a 0) base g i) in
       record {
         left = i;
         left_in = omega (arith, at.0);
-        next-is = is;
+        next_is = is;
         together = omega (arith, w.together);
         at_least = omega (arith, w.at_least);
       }
 
   -- each wire of the chain stands before the one that names it
-  pub walk-falls : (heads links : List ℕ) (latest next further : ℕ)
+  pub walk_falls : (heads links : List ℕ) (latest next further : ℕ)
       → Chained targets m heads links
       → Walk latest next
       → 0 < next
       → further ≡ get_or links (next - 1) 0
       → further < next
-  walk-falls heads links latest next further chained w h l =
+  walk_falls heads links latest next further chained w h l =
       let at = walk_at latest next w h in
-      omega (arith, chained.link (next - 1) at.0, last-at-most targets (next - 1) (get_or targets (next - 1) 0))
+      omega (arith, chained.link (next - 1) at.0, last_at_most targets (next - 1) (get_or targets (next - 1) 0))
 
-  pub walk_ends : (latest next : ℕ) → Walk latest next → next ≡ 0 → latest ≡ first-wires m
+  pub walk_ends : (latest next : ℕ) → Walk latest next → next ≡ 0 → latest ≡ first_wires m
   walk_ends latest next w e =
-      let none : first-wires next ≡ base = rw e (over_none sources targets delays (λ (a : ℕ). get_or times a 0) base g) in
+      let none : first_wires next ≡ base = rw e (over_none sources targets delays (λ (a : ℕ). get_or times a 0) base g) in
       omega (arith, w.together, w.at_least)

@@ -1,8 +1,8 @@
 // The latest time at each gate's output: each gate after the gates that its wires come from.
 ghost use Rattle.std.specs.Prelude.{◌≡◌, ℕ, ◌<◌, ◌≤◌, get_or};
-ghost use Rattle.model.specs.Slack.{latest-in};
-ghost use Rattle.model.specs.Arrays.{wires-in};
-ghost use Rattle.timing.specs.Times.{time-bound, Walkable, Ready, LatestTimes};
+ghost use Rattle.model.specs.Slack.{latest_in};
+ghost use Rattle.model.specs.Arrays.{wires_in};
+ghost use Rattle.timing.specs.Times.{time_bound, Walkable, Ready, LatestTimes};
 
 use crate::number::{index, larger};
 
@@ -20,8 +20,8 @@ fn latest_into(
     times: &[u32],
     base: u32,
 ) -> u32
-    requires { (g < n) × (base ≤ time-bound) × Walkable n m sources.now targets.now wire_delays.now heads.now links.now times.now }
-    ensures { result ≡ latest-in (wires-in m sources.now targets.now wire_delays.now) (λ (a : ℕ). get_or times.now a 0) base g }
+    requires { (g < n) × (base ≤ time_bound) × Walkable n m sources.now targets.now wire_delays.now heads.now links.now times.now }
+    ensures { result ≡ latest_in (wires_in m sources.now targets.now wire_delays.now) (λ (a : ℕ). get_or times.now a 0) base g }
 {
     let mut latest = base;
     let mut next = index(heads[g]);

@@ -1,8 +1,8 @@
 // The slack of each gate: what the longest path through it leaves of the deadline.
 ghost use Rattle.std.specs.Prelude.{◌≡◌, ◌≤◌, length};
 ghost use Rattle.lists.specs.Over.{build, over};
-ghost use Rattle.model.specs.Limits.{max-gates};
-ghost use Rattle.timing.specs.Slacks.{Reversed, Subtractable, Slackable, left_at, slack-in};
+ghost use Rattle.model.specs.Limits.{max_gates};
+ghost use Rattle.timing.specs.Slacks.{Reversed, Subtractable, Slackable, left_at, slack_in};
 
 use crate::number::left_of;
 use crate::times::times_from;
@@ -10,7 +10,7 @@ use model::limits::MAX_GATES;
 
 // The first n elements of an order, the other way round.
 fn reverse_order(n: usize, order: &[u32], back: &mut [u32])
-    requires { (n ≤ max-gates) × (n ≤ length order.now) × (n ≤ length back.old) }
+    requires { (n ≤ max_gates) × (n ≤ length order.now) × (n ≤ length back.old) }
     ensures { Reversed n order.now back.new }
 {
     let mut k: usize = 0;
@@ -53,7 +53,7 @@ pub fn write_slacks(
     out: &mut [i32],
 )
     requires { Slackable n m order.now sources.now targets.now wire_delays.now gate_delays.now arrival deadline out.old }
-    ensures { out.new ≡ over (build n (slack-in n m sources.now targets.now wire_delays.now gate_delays.now arrival deadline)) out.old }
+    ensures { out.new ≡ over (build n (slack_in n m sources.now targets.now wire_delays.now gate_delays.now arrival deadline)) out.old }
 {
     let mut times = [0u32; MAX_GATES];
     let mut tails = [0u32; MAX_GATES];

@@ -12,40 +12,40 @@ use borrow.Author.Tests.{ltb-true, ltb-false}
 use lib.Dec.{ltb}
 use lib.ListN.{length, get_or}
 use Rattle.lists.specs.Search.{Says}
-use Rattle.lists.proofs.Search.{says-by}
-use Rattle.model.specs.Block.{Step, Block, gate-count, first, last, Joined}
+use Rattle.lists.proofs.Search.{says_by}
+use Rattle.model.specs.Block.{Step, Block, gate_count, first, last, Joined}
 use Rattle.model.specs.Path.{Path, Longest}
-use Rattle.model.specs.Slack.{source-by}
-use Rattle.model.specs.Refusal.{EndFault, into-first, none_in, out-of-last, none_out, SoundNetwork}
+use Rattle.model.specs.Slack.{source_by}
+use Rattle.model.specs.Refusal.{EndFault, into_first, none_in, out_of_last, none_out, SoundNetwork}
 use Rattle.model.specs.Answer.{Outcome, Line, fits, passes, At}
 use Rattle.model.proofs.Slack.{entered}
-use Rattle.model.proofs.Source.{Along, source-attained, source-greatest}
+use Rattle.model.proofs.Source.{Along, source_attained, source_greatest}
 use Rattle.optimum.specs.Gates.{Descending}
 use Rattle.parts.specs.Network.{Network}
 use Rattle.parts.specs.Ascending.{ascending}
-use Rattle.parts.proofs.Ascending.{ascending-rises, ascending-network}
+use Rattle.parts.proofs.Ascending.{ascending_rises, ascending_network}
 use Rattle.worked.specs.Computed.{refuses, first_of, lowest}
 
 -- a line whose place is settled beforehand, by a test
-pub line-by : {S : Type 0} {lent : S} {k place : ℕ} {when : Type 0} {further : Outcome S → Type 0} (o : Outcome S) (b : Bool)
+pub line_by : {S : Type 0} {lent : S} {k place : ℕ} {when : Type 0} {further : Outcome S → Type 0} (o : Outcome S) (b : Bool)
     → Says when b
     → (b ≡ false → further o)
     → Line lent k (At place when) further (cond b (refuses k place lent) o)
-line-by {place = place} o true says rest = fits place (refl, says) refl
-line-by o false says rest = passes (λ p h. says h.1) (rest refl)
+line_by {place = place} o true says rest = fits place (refl, says) refl
+line_by o false says rest = passes (λ p h. says h.1) (rest refl)
 
-pub less-says : (a b : ℕ) → Says (a < b) (ltb a b)
-less-says a b = says-by (a < b) (ltb a b) (ltb-true a b) (λ e l. omega (arith, ltb-false a b e))
+pub less_says : (a b : ℕ) → Says (a < b) (ltb a b)
+less_says a b = says_by (a < b) (ltb a b) (ltb-true a b) (λ e l. omega (arith, ltb-false a b e))
 
 -- what the search for the least number finds
 abbrev pub FindsLowest : (ℕ → Bool) → ℕ → Option ℕ → Type 0
 FindsLowest p k none = (j : ℕ) → j < k → p j ≡ false
 FindsLowest p k (some i) = (i < k) × (p i ≡ true) × ((j : ℕ) → j < i → p j ≡ false)
 
-pub lowest-finds : (p : ℕ → Bool) (k : ℕ) → FindsLowest p k (lowest p k)
+pub lowest_finds : (p : ℕ → Bool) (k : ℕ) → FindsLowest p k (lowest p k)
 unfolding lowest
-lowest-finds p zero = λ j l. absurd (omega arith)
-lowest-finds p (suc k) = go (lowest p k) (lowest-finds p k) (p k) refl
+lowest_finds p zero = λ j l. absurd (omega arith)
+lowest_finds p (suc k) = go (lowest p k) (lowest_finds p k) (p k) refl
   where
     by : (j : ℕ) → p k ≡ false → FindsLowest p k none → (j ≡ k) ⊎ (j < k) → p j ≡ false
     by j e f (inl s) = ap p s ∙ e
@@ -65,33 +65,33 @@ descending (s ∷ r ∷ ss) falls = (
   descending (r ∷ ss) (λ j d l. falls (suc j) d (omega arith)),
 )
 
-pub sound-network : {B : Block} → Network B → SoundNetwork B
-sound-network {B} n = record { no_loop = n.acyclic; ends = no-fault }
+pub sound_network : {B : Block} → Network B → SoundNetwork B
+sound_network {B} n = record { no_loop = n.acyclic; ends = no_fault }
   where
-    no-fault : (g : ℕ) → ¬ (EndFault B g)
-    no-fault g (into-first a e j) = n.first-none a (subst (Joined B.wires a) e j)
-    no-fault g (none_in l d free) = let (x, j) = n.wire-into g l d in free x j
-    no-fault g (out-of-last b e j) = n.last_none b (subst (λ x. Joined B.wires x b) e j)
-    no-fault g (none_out l d free) = let (y, j) = n.wire-from g l d in free y j
+    no_fault : (g : ℕ) → ¬ (EndFault B g)
+    no_fault g (into_first a e j) = n.first_none a (subst (Joined B.wires a) e j)
+    no_fault g (none_in l d free) = let (x, j) = n.wire_into g l d in free x j
+    no_fault g (out_of_last b e j) = n.last_none b (subst (λ x. Joined B.wires x b) e j)
+    no_fault g (none_out l d free) = let (y, j) = n.wire_from g l d in free y j
 
 module _ (B : Block) (h : ascending B ≡ true) where
-  pub along : Along B.wires (gate-count B)
+  pub along : Along B.wires (gate_count B)
   along =
       record {
         place = λ g. g;
         below = λ g l. l;
-        grows = λ a b w on. (ascending-rises B h a b (w, on)).0;
-        in-range = λ a b w on. let (l, u) = ascending-rises B h a b (w, on) in (omega arith, u);
+        grows = λ a b w on. (ascending_rises B h a b (w, on)).0;
+        in_range = λ a b w on. let (l, u) = ascending_rises B h a b (w, on) in (omega arith, u);
       }
 
   -- the latest time at the last gate's output is that of a longest path
-  pub lasts : (d : ℕ → ℕ) → Longest B.wires d (first B) (last B) (source-by (gate-count B) B.wires d 0 (last B))
+  pub lasts : (d : ℕ → ℕ) → Longest B.wires d (first B) (last B) (source_by (gate_count B) B.wires d 0 (last B))
   lasts d =
-      let n = ascending-network B h in
-      let some : 0 < gate-count B = n.some-gate in
-      let r = source-attained B.wires d 0 (gate-count B) along (first B) (entered B (sound-network n)) (last B) (omega arith) in
-      let is : r.0 ≡ source-by (gate-count B) B.wires d 0 (last B) = omega (arith, r.2) in
+      let n = ascending_network B h in
+      let some : 0 < gate_count B = n.some_gate in
+      let r = source_attained B.wires d 0 (gate_count B) along (first B) (entered B (sound_network n)) (last B) (omega arith) in
+      let is : r.0 ≡ source_by (gate_count B) B.wires d 0 (last B) = omega (arith, r.2) in
       record {
         attained = rw is at r.1;
-        greatest = λ (t : ℕ) (p : Path B.wires d (first B) (last B) t). omega (arith, source-greatest B.wires d 0 (gate-count B) along some p);
+        greatest = λ (t : ℕ) (p : Path B.wires d (first B) (last B) t). omega (arith, source_greatest B.wires d 0 (gate_count B) along some p);
       }

@@ -3,18 +3,18 @@
 -- Assumes nothing.
 use mathlib.Core.Path.{sym, subst}
 use mathlib.Core.List.{List, [], ◌∷◌}
-use Rattle.model.proofs.Answer.{Unique, answers-slacks-unique, answers-judge-unique, answers-curve-unique, answers-best-unique, answers-ticks-unique}
-use Rattle.worked.specs.Call.{Call, find-slacks, judge-list, find-curve, find-best, find-ticks, Allows, Row, Holds, Every}
+use Rattle.model.proofs.Answer.{Unique, answers_slacks_unique, answers_judge_unique, answers_curve_unique, answers_best_unique, answers_ticks_unique}
+use Rattle.worked.specs.Call.{Call, find_slacks, judge_list, find_curve, find_best, find_ticks, Allows, Row, Holds, Every}
 use Rattle.worked.specs.Table.{table}
 use Rattle.worked.proofs.Sound.{sound}
-use Rattle.worked.proofs.Computes.{Computes, rows-compute}
+use Rattle.worked.proofs.Computes.{Computes, rows_compute}
 
 unique : (c : Call) → Unique (Allows c)
-unique (find-slacks file lent) = answers-slacks-unique file lent
-unique (judge-list file lent) = answers-judge-unique file lent
-unique (find-curve file lent) = answers-curve-unique file lent
-unique (find-best file lent) = answers-best-unique file lent
-unique (find-ticks file wanted) = answers-ticks-unique file wanted
+unique (find_slacks file lent) = answers_slacks_unique file lent
+unique (judge_list file lent) = answers_judge_unique file lent
+unique (find_curve file lent) = answers_curve_unique file lent
+unique (find_best file lent) = answers_best_unique file lent
+unique (find_ticks file wanted) = answers_ticks_unique file wanted
 
 -- a row that computes holds
 holds : (r : Row) → Computes r → Holds r
@@ -28,4 +28,4 @@ all_hold [] c = tt
 all_hold (r ∷ rs) (c, cs) = (holds r c, all_hold rs cs)
 
 pub worked : Every Holds table
-worked = all_hold table rows-compute
+worked = all_hold table rows_compute

@@ -4,35 +4,35 @@ use Rattle.model.specs.Answer.{Outcome, Slices, AnswersSlacks, AnswersJudge, Ans
 
 -- A call: the file's bytes, and what is lent beside them or, for the fewest ticks, the wanted saving.
 pub data Call : Type 0 where
-  find-slacks : List ℕ → List ℤ → Call
-  judge-list : List ℕ → List ℕ → Call
-  find-curve : List ℕ → Slices → Call
-  find-best : List ℕ → List ℕ → Call
-  find-ticks : List ℕ → ℕ → Call
+  find_slacks : List ℕ → List ℤ → Call
+  judge_list : List ℕ → List ℕ → Call
+  find_curve : List ℕ → Slices → Call
+  find_best : List ℕ → List ℕ → Call
+  find_ticks : List ℕ → ℕ → Call
 
 -- the file of a call
-abbrev pub file-of : Call → List ℕ
-file-of (find-slacks file lent) = file
-file-of (judge-list file lent) = file
-file-of (find-curve file lent) = file
-file-of (find-best file lent) = file
-file-of (find-ticks file wanted) = file
+abbrev pub file_of : Call → List ℕ
+file_of (find_slacks file lent) = file
+file_of (judge_list file lent) = file
+file_of (find_curve file lent) = file
+file_of (find_best file lent) = file
+file_of (find_ticks file wanted) = file
 
 -- the memory lent to a call
 abbrev pub Memory : Call → Type 0
-Memory (find-slacks file lent) = List ℤ
-Memory (judge-list file lent) = List ℕ
-Memory (find-curve file lent) = Slices
-Memory (find-best file lent) = List ℕ
-Memory (find-ticks file wanted) = Unit {0}
+Memory (find_slacks file lent) = List ℤ
+Memory (judge_list file lent) = List ℕ
+Memory (find_curve file lent) = Slices
+Memory (find_best file lent) = List ℕ
+Memory (find_ticks file wanted) = Unit {0}
 
 -- the table of a call allows an outcome
 abbrev pub Allows : (c : Call) → Outcome (Memory c) → Type 0
-Allows (find-slacks file lent) = AnswersSlacks file lent
-Allows (judge-list file lent) = AnswersJudge file lent
-Allows (find-curve file lent) = AnswersCurve file lent
-Allows (find-best file lent) = AnswersBest file lent
-Allows (find-ticks file wanted) = AnswersTicks file wanted
+Allows (find_slacks file lent) = AnswersSlacks file lent
+Allows (judge_list file lent) = AnswersJudge file lent
+Allows (find_curve file lent) = AnswersCurve file lent
+Allows (find_best file lent) = AnswersBest file lent
+Allows (find_ticks file wanted) = AnswersTicks file wanted
 
 -- A row: a call, and the answer and the memory afterwards that are expected of it.
 pub record Row : Type 0 where

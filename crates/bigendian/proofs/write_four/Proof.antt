@@ -2,7 +2,7 @@
 use borrow.Author.Rules.{rules}
 use native.Mathlib.Omega.{arith}
 use lib.ListN.{length-set}
-use Rattle.bigendian.proofs.Bytes.{four-stored}
+use Rattle.bigendian.proofs.Bytes.{four_stored}
 use Rattle.bigendian.proofs.write_four.Statement.{statement}
 use Rattle.bigendian.proofs.write_four.Tie as tie
 
@@ -43,7 +43,7 @@ same_length : tie.Need-same-length
 same_length c = search rules
 
 returns : tie.Need-returns
-returns c = four-stored c.before.before.before.before.before.args.out.now c.before.before.before.before.before.args.at c.before.before.before.before.before.args.increase _ _ _ _ c.before.before.before.before.before.requires (omega arith) c.before.before.before.byte_of.ensures c.before.before.byte-of2.ensures c.before.byte-of3.ensures c.byte-of4.ensures
+returns c = four_stored c.before.before.before.before.before.args.out.now c.before.before.before.before.before.args.at c.before.before.before.before.before.args.increase _ _ _ _ c.before.before.before.before.before.requires (omega arith) c.before.before.before.byte_of.ensures c.before.before.byte-of2.ensures c.before.byte-of3.ensures c.byte-of4.ensures
 
 pub write-four-spec : {M : Type 1} → statement M
 write-four-spec = tie.close (tie.spec byte-of-requires slice-write-out byte-of-requires-2 add-out slice-write-out-2 byte-of-requires-3 add-out-2 slice-write-out-3 byte-of-requires-4 add-out-3 slice-write-out-4 same_length returns)

@@ -4,13 +4,13 @@ use Prim.Native.Nat.{◌≤◌, ◌-◌}
 use native.Mathlib.Omega.{arith}
 use lib.ListN.{length, take}
 use Rattle.lists.specs.Over.{over}
-use Rattle.model.specs.Layout.{list-bytes}
-use Rattle.bigendian.proofs.Bytes.{none_written, more-written}
+use Rattle.model.specs.Layout.{list_bytes}
+use Rattle.bigendian.proofs.Bytes.{none_written, more_written}
 use Rattle.bigendian.proofs.write_increases.Statement.{statement}
 use Rattle.bigendian.proofs.write_increases.Tie as tie
 
 abbrev invariant-loop : tie.invariant-loop
-invariant-loop n increases out₀ i₀ out i = (i ≤ n) × (length out ≡ length out₀) × (out ≡ over (list-bytes (take i increases)) out₀)
+invariant-loop n increases out₀ i₀ out i = (i ≤ n) × (length out ≡ length out₀) × (out ≡ over (list_bytes (take i increases)) out₀)
 
 abbrev decreases-loop : tie.decreases-loop
 decreases-loop n increases out₀ i₀ out i = n - i
@@ -37,7 +37,7 @@ loop-less : tie.Need-loop-smaller invariant-loop decreases-loop
 loop-less c = omega arith
 
 loop-again : tie.Need-loop-preserved invariant-loop decreases-loop
-loop-again c = (omega arith, c.before.before.write-four.auto.1.0 ∙ c.before.before.before.before.before.before.loop.invariant.1, more-written c.before.before.before.before.before.before.before.before.before.args.increases.now c.before.before.before.before.before.before.before.before.before.args.out.now c.before.before.before.before.before.before.loop.i c.before.before.before.before.before.before.loop.out c.before.before.write-four.new.1.0 (omega arith) c.before.before.before.before.before.before.loop.invariant.2 c.before.before.write-four.ensures)
+loop-again c = (omega arith, c.before.before.write-four.auto.1.0 ∙ c.before.before.before.before.before.before.loop.invariant.1, more_written c.before.before.before.before.before.before.before.before.before.args.increases.now c.before.before.before.before.before.before.before.before.before.args.out.now c.before.before.before.before.before.before.loop.i c.before.before.before.before.before.before.loop.out c.before.before.write-four.new.1.0 (omega arith) c.before.before.before.before.before.before.loop.invariant.2 c.before.before.write-four.ensures)
 
 same_length : tie.Need-same-length invariant-loop decreases-loop
 same_length c = c.before.loop.invariant.1

@@ -1,7 +1,7 @@
 -- `blockfile_cases::run` is safe: the arrays are as long as a file may ask for, and no wire stands in the table.
 -- Assumes nothing.
 use borrow.Author.Rules.{rules}
-use Rattle.ranges.proofs.Pairs.{no-marks}
+use Rattle.ranges.proofs.Pairs.{no_marks}
 use Rattle.blockfile_cases.proofs.run.Statement.{statement}
 use Rattle.blockfile_cases.proofs.run.Tie as tie
 
@@ -33,7 +33,7 @@ slice-aggregate-read-block-9 : tie.Need-slice-aggregate-read-block-9
 slice-aggregate-read-block-9 c = search rules
 
 read-block-requires : tie.Need-read-block-requires
-read-block-requires c κs = (search rules, (search rules, no-marks))
+read-block-requires c κs = (search rules, (search rules, no_marks))
 
 enum-known-answer : tie.Need-enum-known-answer
 enum-known-answer c = search rules

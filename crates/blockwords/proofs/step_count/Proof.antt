@@ -1,7 +1,7 @@
 use borrow.Author.Rules.{rules}
-use Rattle.model.specs.Limits.{max-gates}
-use Rattle.words.proofs.Views.{read-on}
-use Rattle.blockwords.specs.BlockWords.{counts-from}
+use Rattle.model.specs.Limits.{max_gates}
+use Rattle.words.proofs.Views.{read_on}
+use Rattle.blockwords.specs.BlockWords.{counts_from}
 use Rattle.blockwords.proofs.step_count.Statement.{statement}
 use Rattle.blockwords.proofs.step_count.Tie as tie
 
@@ -15,7 +15,7 @@ element-copy-out-result : tie.Need-element-copy-out-result
 element-copy-out-result c = search rules
 
 returns : tie.Need-returns
-returns c = read-on counts-from max-gates c.before.args.block.now c.before.args.g c.before.requires
+returns c = read_on counts_from max_gates c.before.args.block.now c.before.args.g c.before.requires
 
 pub step-count-spec : {M : Type 1} → statement M
 step-count-spec = tie.close (tie.spec add-result mul-result element-copy-out-result returns)

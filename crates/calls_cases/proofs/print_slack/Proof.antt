@@ -1,6 +1,6 @@
 -- `calls_cases::print_slack` is safe: a slack that is not below 0 is a natural number. Assumes nothing.
 use borrow.Author.Rules.{rules}
-use Rattle.calls_cases.proofs.Signs.{natural-cast}
+use Rattle.calls_cases.proofs.Signs.{natural_cast}
 use Rattle.calls_cases.proofs.print_slack.Statement.{statement}
 use Rattle.calls_cases.proofs.print_slack.Tie as tie
 
@@ -11,7 +11,7 @@ write-all-requires : tie.Need-write-all-requires
 write-all-requires c κs = search rules
 
 cast-print-number : tie.Need-overflow-cast-print-number
-cast-print-number c = natural-cast c.before.args.x c.before.ranges.x c.if1.false
+cast-print-number c = natural_cast c.before.args.x c.before.ranges.x c.if1.false
 
 print-number-requires : tie.Need-print-number-requires
 print-number-requires c κs = search rules

@@ -1,14 +1,14 @@
 -- `cases::below_zero` is safe: −1 − x fits for a negative x, and is a natural number. Assumes nothing.
 use Rattle.std.proofs.Common.{rules}
-use Rattle.cases.proofs.Signs.{turned-fits, turned-cast, turned_more}
+use Rattle.cases.proofs.Signs.{turned_fits, turned_cast, turned_more}
 use Rattle.cases.proofs.below_zero.Statement.{statement}
 use Rattle.cases.proofs.below_zero.Tie as tie
 
 sub-result : tie.Need-overflow-sub-result
-sub-result c = turned-fits c.before.args.x c.before.ranges.x c.if1.true
+sub-result c = turned_fits c.before.args.x c.before.ranges.x c.if1.true
 
 cast-result : tie.Need-overflow-cast-result
-cast-result c = turned-cast c.before.args.x c.before.ranges.x c.if1.true
+cast-result c = turned_cast c.before.args.x c.before.ranges.x c.if1.true
 
 add-result : tie.Need-overflow-add-result
 add-result c = turned_more c.before.args.x c.before.ranges.x c.if1.true

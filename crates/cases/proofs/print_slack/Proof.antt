@@ -1,6 +1,6 @@
 -- `cases::print_slack` is safe: a slack that is not below 0 is a natural number. Assumes nothing.
 use Rattle.std.proofs.Common.{rules}
-use Rattle.cases.proofs.Signs.{natural-cast}
+use Rattle.cases.proofs.Signs.{natural_cast}
 use Rattle.cases.proofs.print_slack.Statement.{statement}
 use Rattle.cases.proofs.print_slack.Tie as tie
 
@@ -17,7 +17,7 @@ print-decimal-requires : tie.Need-print-decimal-requires
 print-decimal-requires c κs = search rules
 
 cast-print-number : tie.Need-overflow-cast-print-number
-cast-print-number c = natural-cast c.before.args.x c.before.ranges.x c.if1.false
+cast-print-number c = natural_cast c.before.args.x c.before.ranges.x c.if1.false
 
 print-number-requires : tie.Need-print-number-requires
 print-number-requires c κs = search rules

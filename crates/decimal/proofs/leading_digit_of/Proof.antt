@@ -7,7 +7,7 @@ use native.Mathlib.Numerals.{add-one}
 use native.Mathlib.Omega.{arith}
 use lib.ListN.{length}
 use Rattle.model.specs.Printout.{digits}
-use Rattle.decimal.proofs.Digits.{some-digit, more-than, at_most, at-most-twenty, power_below}
+use Rattle.decimal.proofs.Digits.{some_digit, more_than, at_most, at_most_twenty, power_below}
 use Rattle.decimal.proofs.leading_digit_of.Statement.{statement}
 use Rattle.decimal.proofs.leading_digit_of.Tie as tie
 
@@ -18,22 +18,22 @@ abbrev decreases-loop : tie.decreases-loop
 decreases-loop n tenth power₀ count₀ power count = length (digits n) - count
 
 loop-holds : tie.Need-loop-init invariant-loop decreases-loop
-loop-holds c = (omega arith, omega (arith, some-digit c.args.n), refl)
+loop-holds c = (omega arith, omega (arith, some_digit c.args.n), refl)
 
 mul_power : tie.Need-overflow-mul-power invariant-loop decreases-loop
 mul_power c = omega arith
 
 add-count : tie.Need-overflow-add-count invariant-loop decreases-loop
-add-count c = let start = c.before.before in omega (arith, at-most-twenty start.args.n start.ranges.n.fits)
+add-count c = let start = c.before.before in omega (arith, at_most_twenty start.args.n start.ranges.n.fits)
 
 loop-less : tie.Need-loop-smaller invariant-loop decreases-loop
-loop-less c = omega (arith, more-than c.before.loop.count c.before.before.args.n (omega arith))
+loop-less c = omega (arith, more_than c.before.loop.count c.before.before.args.n (omega arith))
 
 loop-again : tie.Need-loop-preserved invariant-loop decreases-loop
 loop-again c =
     let count = c.before.loop.count in (
       omega arith,
-      omega (arith, more-than count c.before.before.args.n (omega arith)),
+      omega (arith, more_than count c.before.before.args.n (omega arith)),
       rw (add-one count, pow-suc 10 count) (omega arith),
     )
 

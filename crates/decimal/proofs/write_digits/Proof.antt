@@ -9,7 +9,7 @@ use lib.ListN.{length, length-set}
 use lib.Seq.{paste, paste-zero}
 use Rattle.model.specs.Printout.{digits}
 use Rattle.decimal.proofs.Digits.{digit_at, power_below}
-use Rattle.decimal.proofs.Placed.{paste-byte, written, not_written}
+use Rattle.decimal.proofs.Placed.{paste_byte, written, not_written}
 use Rattle.decimal.proofs.write_digits.Statement.{statement}
 use Rattle.decimal.proofs.write_digits.Tie as tie
 
@@ -74,7 +74,7 @@ loop-again c =
       omega arith,
       simp length-set inv.1,
       rw inv.2
-          (paste-byte start.out.now start.at (digits start.n) i
+          (paste_byte start.out.now start.at (digits start.n) i
           (rw (counts, leading.ensures.0) (omega (arith, digit_at start.n i (omega arith))))
           (omega arith)
           (omega arith)),

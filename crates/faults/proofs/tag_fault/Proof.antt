@@ -22,12 +22,12 @@ returns c =
 returns-2 : tie.Need-returns-2
 returns-2 c =
     let same : eqb c.before.before.before.before.args.tag c.before.before.before.tag_of.result ≡ true = not-false _ c.before.if1.false in
-    rw (← c.before.before.before.tag_of.ensures, same, ← c.before.before.length-fits.ensures, not-true c.before.before.length-fits.result c.if2.true)
+    rw (← c.before.before.before.tag_of.ensures, same, ← c.before.before.length_fits.ensures, not-true c.before.before.length_fits.result c.if2.true)
 
 returns-3 : tie.Need-returns-3
 returns-3 c =
     let same : eqb c.before.before.before.before.args.tag c.before.before.before.tag_of.result ≡ true = not-false _ c.before.if1.false in
-    rw (← c.before.before.before.tag_of.ensures, same, ← c.before.before.length-fits.ensures, not-false c.before.before.length-fits.result c.if2.false)
+    rw (← c.before.before.before.tag_of.ensures, same, ← c.before.before.length_fits.ensures, not-false c.before.before.length_fits.result c.if2.false)
 
 pub tag-fault-spec : {M : Type 1} → statement M
 tag-fault-spec = tie.close (tie.spec tag-of-requires length-fits-requires returns returns-2 returns-3)

@@ -1,11 +1,11 @@
 -- The proof of the cycle of calls {parallel_give_out, series_give_out}. The measure is twice the wires of the part, one more for `series_give_out`, which may hand on the whole part; `parallel_give_out` hands on to parts of fewer wires.
 -- Assumes nothing.
 use mathlib.Core.Path.{◌∙◌}
-use Rattle.planting.specs.TreeWords.{tree-nodes}
+use Rattle.planting.specs.TreeWords.{tree_nodes}
 use Rattle.heads.specs.Plan.{part}
 use Rattle.handout.proofs.Handing.{wires}
-use Rattle.handout.proofs.Calls.{in-parallel, in-series}
-use Rattle.handout.proofs.WordCalls.{node-room, node, walks, nothing-given, item-node, gate-asked, gate-renewable, gate-done, item-falls, item-kind, item-can, item-renewable, item-done, left-falls, left-can, right-falls, right-can, both-done}
+use Rattle.handout.proofs.Calls.{in_parallel, in_series}
+use Rattle.handout.proofs.WordCalls.{node_room, node, walks, nothing_given, item_node, gate_asked, gate_renewable, gate_done, item_falls, item_kind, item_can, item_renewable, item_done, left_falls, left_can, right_falls, right_can, both_done}
 use Prim.Native.Nat.{ℕ, ◌<◌}
 use borrow.Fn.Kinds.{In}
 use borrow.Fn.PlainCycle.{Measures, is, falls, and}
@@ -27,10 +27,10 @@ use Rattle.handout.proofs.+parallel_give_out_series_give_out.{statement}
 use Rattle.handout.proofs.+parallel_give_out_series_give_out.Tie.{close}
 
 abbrev μ-parallel-give-out : Measures 4 parallel-give-out-kinds.ps ℕ
-μ-parallel-give-out κs a = in-parallel (wires (part (tree-nodes a.1.1.1.0.now) a.0))
+μ-parallel-give-out κs a = in_parallel (wires (part (tree_nodes a.1.1.1.0.now) a.0))
 
 abbrev μ-series-give-out : Measures 4 series-give-out-kinds.ps ℕ
-μ-series-give-out κs a = in-series (wires (part (tree-nodes a.1.1.1.0.now) a.0))
+μ-series-give-out κs a = in_series (wires (part (tree_nodes a.1.1.1.0.now) a.0))
 
 abbrev parallel-give-out-at : ℕ → In 4 parallel-give-out-kinds.ps
 parallel-give-out-at t =
@@ -80,53 +80,53 @@ pub +parallel-give-out-series-give-out-spec : {M : Type 1} → statement M
     -- parallel-give-out-right-at-requires
     (λ c κs. node c.before.before.requires.1.1)
     -- parallel-give-out-node-gain-requires
-    (λ c κs. node-room (left-can c.before.before.before.before.requires.1.1 c.before.before.before.before.requires.1.0 c.before.before.left_at.ensures))
+    (λ c κs. node_room (left_can c.before.before.before.before.requires.1.1 c.before.before.before.before.requires.1.0 c.before.before.left_at.ensures))
     -- parallel-give-out-series-give-out-requires
-    (λ c κs. (right-falls c.before.before.before.before.before.before.before.before.requires.1.1 c.before.before.before.before.before.before.before.before.requires.1.0 c.before.before.before.before.before.before.left_at.ensures (nothing-given (left-can c.before.before.before.before.before.before.before.before.requires.1.1 c.before.before.before.before.before.before.before.before.requires.1.0 c.before.before.before.before.before.before.left_at.ensures) _ c.before.before.before.node-gain.ensures c.before.before.if1.true) c.before.before.before.before.before.right-at.ensures c.before.before.before.before.before.before.before.before.requires.0, right-can c.before.before.before.before.before.before.before.before.requires.1.1 c.before.before.before.before.before.before.before.before.requires.1.0 c.before.before.before.before.before.before.left_at.ensures (nothing-given (left-can c.before.before.before.before.before.before.before.before.requires.1.1 c.before.before.before.before.before.before.before.before.requires.1.0 c.before.before.before.before.before.before.left_at.ensures) _ c.before.before.before.node-gain.ensures c.before.before.if1.true) c.before.before.before.before.before.right-at.ensures))
+    (λ c κs. (right_falls c.before.before.before.before.before.before.before.before.requires.1.1 c.before.before.before.before.before.before.before.before.requires.1.0 c.before.before.before.before.before.before.left_at.ensures (nothing_given (left_can c.before.before.before.before.before.before.before.before.requires.1.1 c.before.before.before.before.before.before.before.before.requires.1.0 c.before.before.before.before.before.before.left_at.ensures) _ c.before.before.before.node-gain.ensures c.before.before.if1.true) c.before.before.before.before.before.right_at.ensures c.before.before.before.before.before.before.before.before.requires.0, right_can c.before.before.before.before.before.before.before.before.requires.1.1 c.before.before.before.before.before.before.before.before.requires.1.0 c.before.before.before.before.before.before.left_at.ensures (nothing_given (left_can c.before.before.before.before.before.before.before.before.requires.1.1 c.before.before.before.before.before.before.before.before.requires.1.0 c.before.before.before.before.before.before.left_at.ensures) _ c.before.before.before.node-gain.ensures c.before.before.if1.true) c.before.before.before.before.before.right_at.ensures))
     -- parallel-give-out-same-length
     (λ c. c.before.before.series-give-out.auto.1.1.1.1.0)
     -- parallel-give-out-returns
-    (λ c. both-done c.before.before.before.before.before.before.before.before.before.before.before.requires.1.1 c.before.before.before.before.before.before.before.before.before.before.before.requires.1.0 c.before.before.before.before.before.before.before.before.before.left_at.ensures (nothing-given (left-can c.before.before.before.before.before.before.before.before.before.before.before.requires.1.1 c.before.before.before.before.before.before.before.before.before.before.before.requires.1.0 c.before.before.before.before.before.before.before.before.before.left_at.ensures) _ c.before.before.before.before.before.before.node-gain.ensures c.before.before.before.before.before.if1.true) c.before.before.before.before.before.before.before.before.right-at.ensures c.before.before.series-give-out.ensures)
+    (λ c. both_done c.before.before.before.before.before.before.before.before.before.before.before.requires.1.1 c.before.before.before.before.before.before.before.before.before.before.before.requires.1.0 c.before.before.before.before.before.before.before.before.before.left_at.ensures (nothing_given (left_can c.before.before.before.before.before.before.before.before.before.before.before.requires.1.1 c.before.before.before.before.before.before.before.before.before.before.before.requires.1.0 c.before.before.before.before.before.before.before.before.before.left_at.ensures) _ c.before.before.before.before.before.before.node-gain.ensures c.before.before.before.before.before.if1.true) c.before.before.before.before.before.before.before.before.right_at.ensures c.before.before.series-give-out.ensures)
     -- parallel-give-out-series-give-out-requires-2
-    (λ c κs. (left-falls c.before.before.before.before.before.before.before.before.requires.1.1 c.before.before.before.before.before.before.before.before.requires.1.0 c.before.before.before.before.before.before.left_at.ensures c.before.before.before.before.before.before.before.before.requires.0, left-can c.before.before.before.before.before.before.before.before.requires.1.1 c.before.before.before.before.before.before.before.before.requires.1.0 c.before.before.before.before.before.before.left_at.ensures))
+    (λ c κs. (left_falls c.before.before.before.before.before.before.before.before.requires.1.1 c.before.before.before.before.before.before.before.before.requires.1.0 c.before.before.before.before.before.before.left_at.ensures c.before.before.before.before.before.before.before.before.requires.0, left_can c.before.before.before.before.before.before.before.before.requires.1.1 c.before.before.before.before.before.before.before.before.requires.1.0 c.before.before.before.before.before.before.left_at.ensures))
     -- parallel-give-out-node-gain-requires-2
-    (λ c κs. node-room (right-can c.before.before.before.before.before.before.before.before.before.before.before.before.requires.1.1 c.before.before.before.before.before.before.before.before.before.before.before.before.requires.1.0 c.before.before.before.before.before.before.before.before.before.before.left_at.ensures c.before.before.before.series-give-out2.ensures c.before.before.before.before.before.before.before.before.before.right-at.ensures))
+    (λ c κs. node_room (right_can c.before.before.before.before.before.before.before.before.before.before.before.before.requires.1.1 c.before.before.before.before.before.before.before.before.before.before.before.before.requires.1.0 c.before.before.before.before.before.before.before.before.before.before.left_at.ensures c.before.before.before.series-give-out2.ensures c.before.before.before.before.before.before.before.before.before.right_at.ensures))
     -- parallel-give-out-same-length-2
     (λ c. c.before.before.before.before.before.series-give-out2.auto.1.1.1.1.0)
     -- parallel-give-out-returns-2
-    (λ c. both-done c.before.before.before.before.before.before.before.before.before.before.before.before.before.before.requires.1.1 c.before.before.before.before.before.before.before.before.before.before.before.before.before.before.requires.1.0 c.before.before.before.before.before.before.before.before.before.before.before.before.left_at.ensures c.before.before.before.before.before.series-give-out2.ensures c.before.before.before.before.before.before.before.before.before.before.before.right-at.ensures (nothing-given (right-can c.before.before.before.before.before.before.before.before.before.before.before.before.before.before.requires.1.1 c.before.before.before.before.before.before.before.before.before.before.before.before.before.before.requires.1.0 c.before.before.before.before.before.before.before.before.before.before.before.before.left_at.ensures c.before.before.before.before.before.series-give-out2.ensures c.before.before.before.before.before.before.before.before.before.before.before.right-at.ensures) _ c.before.node-gain2.ensures c.if2.true))
+    (λ c. both_done c.before.before.before.before.before.before.before.before.before.before.before.before.before.before.requires.1.1 c.before.before.before.before.before.before.before.before.before.before.before.before.before.before.requires.1.0 c.before.before.before.before.before.before.before.before.before.before.before.before.left_at.ensures c.before.before.before.before.before.series-give-out2.ensures c.before.before.before.before.before.before.before.before.before.before.before.right_at.ensures (nothing_given (right_can c.before.before.before.before.before.before.before.before.before.before.before.before.before.before.requires.1.1 c.before.before.before.before.before.before.before.before.before.before.before.before.before.before.requires.1.0 c.before.before.before.before.before.before.before.before.before.before.before.before.left_at.ensures c.before.before.before.before.before.series-give-out2.ensures c.before.before.before.before.before.before.before.before.before.before.before.right_at.ensures) _ c.before.node-gain2.ensures c.if2.true))
     -- parallel-give-out-series-give-out-requires-3
-    (λ c κs. (right-falls c.before.before.before.before.before.before.before.before.before.before.before.before.before.before.before.before.requires.1.1 c.before.before.before.before.before.before.before.before.before.before.before.before.before.before.before.before.requires.1.0 c.before.before.before.before.before.before.before.before.before.before.before.before.before.before.left_at.ensures c.before.before.before.before.before.before.before.series-give-out2.ensures c.before.before.before.before.before.before.before.before.before.before.before.before.before.right-at.ensures c.before.before.before.before.before.before.before.before.before.before.before.before.before.before.before.before.requires.0, right-can c.before.before.before.before.before.before.before.before.before.before.before.before.before.before.before.before.requires.1.1 c.before.before.before.before.before.before.before.before.before.before.before.before.before.before.before.before.requires.1.0 c.before.before.before.before.before.before.before.before.before.before.before.before.before.before.left_at.ensures c.before.before.before.before.before.before.before.series-give-out2.ensures c.before.before.before.before.before.before.before.before.before.before.before.before.before.right-at.ensures))
+    (λ c κs. (right_falls c.before.before.before.before.before.before.before.before.before.before.before.before.before.before.before.before.requires.1.1 c.before.before.before.before.before.before.before.before.before.before.before.before.before.before.before.before.requires.1.0 c.before.before.before.before.before.before.before.before.before.before.before.before.before.before.left_at.ensures c.before.before.before.before.before.before.before.series-give-out2.ensures c.before.before.before.before.before.before.before.before.before.before.before.before.before.right_at.ensures c.before.before.before.before.before.before.before.before.before.before.before.before.before.before.before.before.requires.0, right_can c.before.before.before.before.before.before.before.before.before.before.before.before.before.before.before.before.requires.1.1 c.before.before.before.before.before.before.before.before.before.before.before.before.before.before.before.before.requires.1.0 c.before.before.before.before.before.before.before.before.before.before.before.before.before.before.left_at.ensures c.before.before.before.before.before.before.before.series-give-out2.ensures c.before.before.before.before.before.before.before.before.before.before.before.before.before.right_at.ensures))
     -- parallel-give-out-same-length-3
     (λ c. c.before.before.series-give-out3.auto.1.1.1.1.0 ∙ c.before.before.before.before.before.before.before.before.before.before.series-give-out2.auto.1.1.1.1.0)
     -- parallel-give-out-returns-3
-    (λ c. both-done c.before.before.before.before.before.before.before.before.before.before.before.before.before.before.before.before.before.before.before.requires.1.1 c.before.before.before.before.before.before.before.before.before.before.before.before.before.before.before.before.before.before.before.requires.1.0 c.before.before.before.before.before.before.before.before.before.before.before.before.before.before.before.before.before.left_at.ensures c.before.before.before.before.before.before.before.before.before.before.series-give-out2.ensures c.before.before.before.before.before.before.before.before.before.before.before.before.before.before.before.before.right-at.ensures c.before.before.series-give-out3.ensures))
+    (λ c. both_done c.before.before.before.before.before.before.before.before.before.before.before.before.before.before.before.before.before.before.before.requires.1.1 c.before.before.before.before.before.before.before.before.before.before.before.before.before.before.before.before.before.before.before.requires.1.0 c.before.before.before.before.before.before.before.before.before.before.before.before.before.before.before.before.before.left_at.ensures c.before.before.before.before.before.before.before.before.before.before.series-give-out2.ensures c.before.before.before.before.before.before.before.before.before.before.before.before.before.before.before.before.right_at.ensures c.before.before.series-give-out3.ensures))
     λ t. series-give-out-lts.spec (series-give-out-calls t)
     (series-give-out-at t)
     series-give-out.Post
     -- series-give-out-node-gain-requires
-    (λ c κs. node-room c.before.before.requires.1)
+    (λ c κs. node_room c.before.before.requires.1)
     -- series-give-out-returns
-    (λ c. nothing-given c.before.before.before.before.requires.1 _ c.before.node-gain.ensures c.if1.true)
+    (λ c. nothing_given c.before.before.before.before.requires.1 _ c.before.node-gain.ensures c.if1.true)
     -- series-give-out-descend-requires
     (λ c κs. walks c.before.before.before.before.before.requires.1)
     -- series-give-out-kind-at-requires
-    (λ c κs. item-node c.before.before.before.before.before.before.requires.1 c.descend.ensures)
+    (λ c κs. item_node c.before.before.before.before.before.before.requires.1 c.descend.ensures)
     -- series-give-out-gate-at-requires
-    (λ c κs. item-node c.before.before.before.before.before.before.before.before.requires.1 c.before.before.descend.ensures)
+    (λ c κs. item_node c.before.before.before.before.before.before.before.before.requires.1 c.before.before.descend.ensures)
     -- series-give-out-gate-give-out-requires
-    (λ c κs. gate-asked c.before.before.before.before.before.before.before.before.before.before.before.requires.1 c.before.before.before.before.before.descend.ensures c.before.before.before.before.kind_at.ensures c.before.before.before.if2.true c.before.before.gate-at.ensures c.before.before.before.before.before.before.before.before.node-gain.ensures c.before.before.before.before.before.before.before.if1.false)
+    (λ c κs. gate_asked c.before.before.before.before.before.before.before.before.before.before.before.requires.1 c.before.before.before.before.before.descend.ensures c.before.before.before.before.kind_at.ensures c.before.before.before.if2.true c.before.before.gate_at.ensures c.before.before.before.before.before.before.before.before.node-gain.ensures c.before.before.before.before.before.before.before.if1.false)
     -- series-give-out-renew-up-requires
-    (λ c κs. gate-renewable c.before.before.before.before.before.before.before.before.before.before.before.before.before.before.before.requires.1 c.before.before.before.before.before.before.before.before.before.descend.ensures c.before.before.before.before.before.before.before.before.kind_at.ensures c.before.before.before.before.before.before.before.if2.true c.before.before.before.before.before.before.gate-at.ensures c.before.before.before.gate-give-out.ensures)
+    (λ c κs. gate_renewable c.before.before.before.before.before.before.before.before.before.before.before.before.before.before.before.requires.1 c.before.before.before.before.before.before.before.before.before.descend.ensures c.before.before.before.before.before.before.before.before.kind_at.ensures c.before.before.before.before.before.before.before.if2.true c.before.before.before.before.before.before.gate_at.ensures c.before.before.before.gate-give-out.ensures)
     -- series-give-out-same-length
     (λ c. c.before.before.before.before.gate-give-out.auto.1.1.1.0)
     -- series-give-out-returns-2
-    (λ c. gate-done c.before.before.before.before.before.before.before.before.before.before.before.before.before.before.before.before.requires.1 c.before.before.before.before.before.before.before.before.before.before.descend.ensures c.before.before.before.before.before.before.before.before.before.kind_at.ensures c.before.before.before.before.before.before.before.before.if2.true c.before.before.before.before.before.before.before.gate-at.ensures c.before.before.before.before.gate-give-out.ensures c.renew-up.ensures)
+    (λ c. gate_done c.before.before.before.before.before.before.before.before.before.before.before.before.before.before.before.before.requires.1 c.before.before.before.before.before.before.before.before.before.before.descend.ensures c.before.before.before.before.before.before.before.before.before.kind_at.ensures c.before.before.before.before.before.before.before.before.if2.true c.before.before.before.before.before.before.before.gate_at.ensures c.before.before.before.before.gate-give-out.ensures c.renew-up.ensures)
     -- series-give-out-parallel-give-out-requires
-    (λ c κs. (item-falls c.before.before.before.before.before.before.before.before.before.before.requires.1 c.before.before.before.before.descend.ensures c.before.before.before.before.before.before.before.before.before.before.requires.0, (item-kind c.before.before.before.before.before.before.before.before.before.before.requires.1 c.before.before.before.before.descend.ensures c.before.before.before.kind_at.ensures c.before.before.if2.false c.before.before.before.before.before.before.before.node-gain.ensures c.before.before.before.before.before.before.if1.false, item-can c.before.before.before.before.before.before.before.before.before.before.requires.1 c.before.before.before.before.descend.ensures)))
+    (λ c κs. (item_falls c.before.before.before.before.before.before.before.before.before.before.requires.1 c.before.before.before.before.descend.ensures c.before.before.before.before.before.before.before.before.before.before.requires.0, (item_kind c.before.before.before.before.before.before.before.before.before.before.requires.1 c.before.before.before.before.descend.ensures c.before.before.before.kind_at.ensures c.before.before.if2.false c.before.before.before.before.before.before.before.node-gain.ensures c.before.before.before.before.before.before.if1.false, item_can c.before.before.before.before.before.before.before.before.before.before.requires.1 c.before.before.before.before.descend.ensures)))
     -- series-give-out-renew-up-requires-2
-    (λ c κs. item-renewable c.before.before.before.before.before.before.before.before.before.before.before.before.before.before.requires.1 c.before.before.before.before.before.before.before.before.descend.ensures c.before.before.before.parallel-give-out.ensures)
+    (λ c κs. item_renewable c.before.before.before.before.before.before.before.before.before.before.before.before.before.before.requires.1 c.before.before.before.before.before.before.before.before.descend.ensures c.before.before.before.parallel-give-out.ensures)
     -- series-give-out-same-length-2
     (λ c. c.before.before.before.before.parallel-give-out.auto.1.1.1.1.0)
     -- series-give-out-returns-3
-    (λ c. item-done c.before.before.before.before.before.before.before.before.before.before.before.before.before.before.before.requires.1 c.before.before.before.before.before.before.before.before.before.descend.ensures c.before.before.before.before.parallel-give-out.ensures c.renew-up2.ensures)
+    (λ c. item_done c.before.before.before.before.before.before.before.before.before.before.before.before.before.before.before.requires.1 c.before.before.before.before.before.before.before.before.before.descend.ensures c.before.before.before.before.parallel-give-out.ensures c.renew-up2.ensures)

@@ -1,9 +1,9 @@
 -- `loading::load` meets its contract: the file read, then its network judged. Assumes nothing.
 use borrow.Author.Rules.{rules}
 use native.Mathlib.Omega.{arith}
-use Rattle.ranges.proofs.Pairs.{no-marks}
-use Rattle.blockfile.specs.Held.{gate-arrays, wire-arrays}
-use Rattle.loading.proofs.Loading.{not-read, room-kept, lent-read, loaded}
+use Rattle.ranges.proofs.Pairs.{no_marks}
+use Rattle.blockfile.specs.Held.{gate_arrays, wire_arrays}
+use Rattle.loading.proofs.Loading.{not_read, room_kept, lent_read, loaded}
 use Rattle.loading.proofs.load.Statement.{statement}
 use Rattle.loading.proofs.load.Tie as tie
 
@@ -13,7 +13,7 @@ slice-aggregate-read-block c = search rules
 read-block-requires : tie.Need-read-block-requires
 read-block-requires c κs =
     let start = c.before.before.before.before.before.before.before.before.before.before.before.before.before.before.before.before.before.before.before in
-    (start.pre.0, (start.pre.1.0, no-marks))
+    (start.pre.0, (start.pre.1.0, no_marks))
 
 enum-known-read : tie.Need-enum-known-read
 enum-known-read c = search rules
@@ -24,9 +24,9 @@ enum-known-read-2 c = search rules
 judge-network-requires : tie.Need-judge-network-requires
 judge-network-requires c κs =
     let file = c.before.before.before.before.before.before.before.before.before.before.before.before.before.before.before.before.before.before.before.before.before.before.before.before.before.before.before.before.before.before.before.before.before.before.before.before.before.before.before.before.before.before.before.args.file.now in
-    let read = c.before.before.before.before.before.before.before.before.before.before.before.before.before.before.before.before.before.before.before.before.before.before.before.read-block in
-    let G = gate-arrays read.last.1.0 read.last.1.1.0 read.last.1.1.1.0 read.last.1.1.1.1.0 read.last.1.1.1.1.1.0 in
-    let W = wire-arrays read.last.1.1.1.1.1.1.0 read.last.1.1.1.1.1.1.1.0 read.last.1.1.1.1.1.1.1.1.0 in
+    let read = c.before.before.before.before.before.before.before.before.before.before.before.before.before.before.before.before.before.before.before.before.before.before.before.read_block in
+    let G = gate_arrays read.last.1.0 read.last.1.1.0 read.last.1.1.1.0 read.last.1.1.1.1.0 read.last.1.1.1.1.1.0 in
+    let W = wire_arrays read.last.1.1.1.1.1.1.0 read.last.1.1.1.1.1.1.1.0 read.last.1.1.1.1.1.1.1.1.0 in
     let told = c.before.before.before.before.read2.given in
     let n = told.0.0 in
     let m = told.0.1.0 in
@@ -34,8 +34,8 @@ judge-network-requires c κs =
     let deadline = told.0.1.1.1.0 in
     let activity = told.0.1.1.1.1.0 in
     let start = c.before.before.before.before.before.before.before.before.before.before.before.before.before.before.before.before.before.before.before.before.before.before.before.before.before.before.before.before.before.before.before.before.before.before.before.before.before.before.before.before.before.before.before in
-    let l = lent-read file n m arrival deadline activity G W (rw told.1 at read.ensures)
-    (room-kept start.pre.1.0 read.kept.1.1.1.1.1.1.0 read.kept.1.1.1.1.1.1.1.0 read.kept.1.1.1.1.1.1.1.1.0) in
+    let l = lent_read file n m arrival deadline activity G W (rw told.1 at read.ensures)
+    (room_kept start.pre.1.0 read.kept.1.1.1.1.1.1.0 read.kept.1.1.1.1.1.1.1.0 read.kept.1.1.1.1.1.1.1.1.0) in
     (l, omega (arith, l.gates, start.pre.1.1))
 
 judged-requires : tie.Need-judged-requires
@@ -67,11 +67,11 @@ same-length-8 c = search rules
 
 returns : tie.Need-returns
 returns c =
-    let read = c.before.before.before.before.before.before.before.before.before.before.before.before.before.before.before.before.before.before.before.before.read-block in
-    let G = gate-arrays read.last.1.0 read.last.1.1.0 read.last.1.1.1.0 read.last.1.1.1.1.0 read.last.1.1.1.1.1.0 in
-    let W = wire-arrays read.last.1.1.1.1.1.1.0 read.last.1.1.1.1.1.1.1.0 read.last.1.1.1.1.1.1.1.1.0 in
+    let read = c.before.before.before.before.before.before.before.before.before.before.before.before.before.before.before.before.before.before.before.before.read_block in
+    let G = gate_arrays read.last.1.0 read.last.1.1.0 read.last.1.1.1.0 read.last.1.1.1.1.0 read.last.1.1.1.1.1.0 in
+    let W = wire_arrays read.last.1.1.1.1.1.1.0 read.last.1.1.1.1.1.1.1.0 read.last.1.1.1.1.1.1.1.1.0 in
     let told = c.before.read.given in
-    not-read c.before.before.before.before.before.before.before.before.before.before.before.before.before.before.before.before.before.before.before.before.before.before.before.before.before.before.before.before.before.before.before.before.before.before.before.before.before.before.before.before.args.file.now told.0.0 G W (rw told.1 at read.ensures)
+    not_read c.before.before.before.before.before.before.before.before.before.before.before.before.before.before.before.before.before.before.before.before.before.before.before.before.before.before.before.before.before.before.before.before.before.before.before.before.before.before.before.before.args.file.now told.0.0 G W (rw told.1 at read.ensures)
 
 same-length-9 : tie.Need-same-length-9
 same-length-9 c = search rules
@@ -103,9 +103,9 @@ same-length-17 c = search rules
 returns-2 : tie.Need-returns-2
 returns-2 c =
     let file = c.before.before.before.before.before.before.before.before.before.before.before.before.before.before.before.before.before.before.before.before.before.before.before.before.before.before.before.before.before.before.before.before.before.before.before.before.before.before.before.before.before.before.before.before.before.before.before.args.file.now in
-    let read = c.before.before.before.before.before.before.before.before.before.before.before.before.before.before.before.before.before.before.before.before.before.before.before.before.before.before.before.read-block in
-    let G = gate-arrays read.last.1.0 read.last.1.1.0 read.last.1.1.1.0 read.last.1.1.1.1.0 read.last.1.1.1.1.1.0 in
-    let W = wire-arrays read.last.1.1.1.1.1.1.0 read.last.1.1.1.1.1.1.1.0 read.last.1.1.1.1.1.1.1.1.0 in
+    let read = c.before.before.before.before.before.before.before.before.before.before.before.before.before.before.before.before.before.before.before.before.before.before.before.before.before.before.before.read_block in
+    let G = gate_arrays read.last.1.0 read.last.1.1.0 read.last.1.1.1.0 read.last.1.1.1.1.0 read.last.1.1.1.1.1.0 in
+    let W = wire_arrays read.last.1.1.1.1.1.1.0 read.last.1.1.1.1.1.1.1.0 read.last.1.1.1.1.1.1.1.1.0 in
     let told = c.before.before.before.before.before.before.before.before.read2.given in
     let n = told.0.0 in
     let m = told.0.1.0 in

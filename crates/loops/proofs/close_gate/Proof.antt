@@ -7,7 +7,7 @@ use Prim.Native.Nat.{ℕ, ◌≤◌, ◌-◌}
 use native.Mathlib.Omega.{arith}
 use lib.ListN.{length}
 use Rattle.loops.specs.Square.{Closing, Closed}
-use Rattle.loops.proofs.Square.{gate-begins, gate-ends}
+use Rattle.loops.proofs.Square.{gate_begins, gate_ends}
 use Rattle.loops.proofs.close_gate.Statement.{statement}
 use Rattle.loops.proofs.close_gate.Tie as tie
 
@@ -21,7 +21,7 @@ loop-holds : tie.Need-loop-init invariant-loop decreases-loop
 loop-holds c =
     let entry = c.before in
     let g = entry.args in
-    (omega arith, refl, λ start C. gate-begins start g.n entry.requires.0.0 g.k g.square.now C)
+    (omega arith, refl, λ start C. gate_begins start g.n entry.requires.0.0 g.k g.square.now C)
 
 visit-row-requires : tie.Need-visit-row-requires invariant-loop decreases-loop
 visit-row-requires c κs = search rules
@@ -47,7 +47,7 @@ returns c =
     let loop = c.before.loop in
     let g = entry.args in
     let e : loop.a ≡ g.n = omega arith in
-    λ start C. gate-ends start g.n entry.requires.0.0 g.k loop.square (rw e at (loop.invariant.2 start C))
+    λ start C. gate_ends start g.n entry.requires.0.0 g.k loop.square (rw e at (loop.invariant.2 start C))
 
 pub close-gate-spec : {M : Type 1} → statement M
 close-gate-spec = tie.close (tie.spec invariant-loop decreases-loop loop-holds visit-row-requires add_a loop-less loop-again same_length returns)

@@ -7,7 +7,7 @@ use Prim.Native.Nat.{ℕ, ◌≤◌, ◌-◌}
 use native.Mathlib.Omega.{arith}
 use lib.ListN.{length}
 use Rattle.loops.specs.Square.{Closing}
-use Rattle.loops.proofs.Square.{pair-visited, row_ends}
+use Rattle.loops.proofs.Square.{pair_visited, row_ends}
 use Rattle.loops.proofs.close_row.Statement.{statement}
 use Rattle.loops.proofs.close_row.Tie as tie
 
@@ -44,7 +44,7 @@ loop-again c =
     let t = loop-test.true in (
       omega arith,
       visit-pair.auto.1.1.1.0 ∙ e,
-      λ start C. pair-visited start g.n few g.k g.a an loop.b t loop.square (loop.invariant.2 start C) kn (omega arith)
+      λ start C. pair_visited start g.n few g.k g.a an loop.b t loop.square (loop.invariant.2 start C) kn (omega arith)
           (C.right g.a g.k an kn entry.requires.1.1) visit-pair.ensures,
     )
 

@@ -7,7 +7,7 @@ use native.Mathlib.Numerals.{add-one}
 use native.Mathlib.Omega.{arith}
 use lib.ListN.{length}
 use Rattle.loops.specs.Square.{Closed}
-use Rattle.loops.proofs.Square.{none-through}
+use Rattle.loops.proofs.Square.{none_through}
 use Rattle.loops.proofs.close_square.Statement.{statement}
 use Rattle.loops.proofs.close_square.Tie as tie
 
@@ -20,7 +20,7 @@ decreases-loop n square₀ k₀ square k = n - k
 loop-holds : tie.Need-loop-init invariant-loop decreases-loop
 loop-holds c =
     let entry = c.before in
-    (omega arith, refl, none-through entry.args.square.now entry.args.n entry.requires.0)
+    (omega arith, refl, none_through entry.args.square.now entry.args.n entry.requires.0)
 
 close-gate-requires : tie.Need-close-gate-requires invariant-loop decreases-loop
 close-gate-requires c κs = search rules

@@ -4,7 +4,7 @@ use borrow.Author.Rules.{rules}
 use mathlib.Core.Path.{◌≡◌}
 use Prim.Native.Nat.{◌≤◌, ◌-◌}
 use native.Mathlib.Omega.{arith}
-use Rattle.loops.proofs.Square.{Searched, none-searched, all-searched, self-visited}
+use Rattle.loops.proofs.Square.{Searched, none_searched, all_searched, self_visited}
 use Rattle.loops.proofs.first_paired.Statement.{statement}
 use Rattle.loops.proofs.first_paired.Tie as tie
 
@@ -17,7 +17,7 @@ decreases-loop n square found₀ g₀ found g = n - g
 loop-holds : tie.Need-loop-init invariant-loop decreases-loop
 loop-holds c =
     let entry = c.before in
-    (omega arith, none-searched entry.args.square.now entry.args.n)
+    (omega arith, none_searched entry.args.square.now entry.args.n)
 
 visit-self-requires : tie.Need-visit-self-requires invariant-loop decreases-loop
 visit-self-requires c κs = search rules
@@ -32,14 +32,14 @@ loop-again : tie.Need-loop-preserved invariant-loop decreases-loop
 loop-again c =
     let entry = c.before.before.before.before in
     let loop = c.before.before.loop in
-    (omega arith, self-visited entry.args.square.now entry.args.n loop.g c.before.loop-test.true loop.found loop.invariant.1 c.visit-self.ensures)
+    (omega arith, self_visited entry.args.square.now entry.args.n loop.g c.before.loop-test.true loop.found loop.invariant.1 c.visit-self.ensures)
 
 returns : tie.Need-returns invariant-loop decreases-loop
 returns c =
     let loop = c.before.loop in
     let entry = c.before.before.before in
     let e : loop.g ≡ entry.args.n = omega arith in
-    all-searched entry.args.square.now entry.args.n loop.found (rw e at loop.invariant.1)
+    all_searched entry.args.square.now entry.args.n loop.found (rw e at loop.invariant.1)
 
 pub first-paired-spec : {M : Type 1} → statement M
 first-paired-spec = tie.close (tie.spec invariant-loop decreases-loop loop-holds visit-self-requires add-g loop-less loop-again returns)

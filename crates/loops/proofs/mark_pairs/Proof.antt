@@ -5,15 +5,15 @@ use mathlib.Core.Path.{◌≡◌, refl}
 use Prim.Native.Nat.{◌≤◌, ◌-◌}
 use native.Mathlib.Omega.{arith}
 use lib.ListN.{length}
-use Rattle.model.specs.Limits.{max-gates}
+use Rattle.model.specs.Limits.{max_gates}
 use Rattle.ordering.specs.Wires.{Wired}
 use Rattle.loops.specs.Square.{PairMarks}
-use Rattle.loops.proofs.Pairs.{pairs-none, pairs-marked}
+use Rattle.loops.proofs.Pairs.{pairs_none, pairs_marked}
 use Rattle.loops.proofs.mark_pairs.Statement.{statement}
 use Rattle.loops.proofs.mark_pairs.Tie as tie
 
 abbrev invariant-loop : tie.invariant-loop
-invariant-loop m sources targets square₀ i₀ square i = (i ≤ m) × (length square ≡ length square₀) × PairMarks (Wired i sources targets) max-gates square
+invariant-loop m sources targets square₀ i₀ square i = (i ≤ m) × (length square ≡ length square₀) × PairMarks (Wired i sources targets) max_gates square
 
 abbrev decreases-loop : tie.decreases-loop
 decreases-loop m sources targets square₀ i₀ square i = m - i
@@ -22,19 +22,19 @@ loop-holds : tie.Need-loop-init invariant-loop decreases-loop
 loop-holds c =
     let entry = c.before.before.before in
     let a = entry.args in
-    (omega arith, refl, pairs-none a.sources.now a.targets.now max-gates a.square.now entry.requires.0.gates entry.requires.1.1)
+    (omega arith, refl, pairs_none a.sources.now a.targets.now max_gates a.square.now entry.requires.0.gates entry.requires.1.1)
 
 at-requires : tie.Need-at-requires invariant-loop decreases-loop
-at-requires c κs = omega (arith, c.before.before.before.before.before.requires.0.sources-long)
+at-requires c κs = omega (arith, c.before.before.before.before.before.requires.0.sources_long)
 
 mul-square : tie.Need-overflow-mul-square invariant-loop decreases-loop
 mul-square c =
     let entry = c.before.before.before.before.before.before in
     let loop = c.before.before.loop in
-    omega (arith, entry.requires.0.gates, entry.requires.0.source-is-gate loop.i c.before.loop-test.true, c.at.ensures)
+    omega (arith, entry.requires.0.gates, entry.requires.0.source_is_gate loop.i c.before.loop-test.true, c.at.ensures)
 
 at-requires-2 : tie.Need-at-requires-2 invariant-loop decreases-loop
-at-requires-2 c κs = omega (arith, c.before.before.before.before.before.before.requires.0.targets-long)
+at-requires-2 c κs = omega (arith, c.before.before.before.before.before.before.requires.0.targets_long)
 
 add-square : tie.Need-overflow-add-square invariant-loop decreases-loop
 add-square c =
@@ -44,9 +44,9 @@ add-square c =
     omega (
       arith,
       entry.requires.0.gates,
-      entry.requires.0.source-is-gate loop.i loop-test.true,
+      entry.requires.0.source_is_gate loop.i loop-test.true,
       c.before.at.ensures,
-      entry.requires.0.target-is-gate loop.i loop-test.true,
+      entry.requires.0.target_is_gate loop.i loop-test.true,
       c.at2.ensures,
     )
 
@@ -58,9 +58,9 @@ slice-write-square c =
     omega (
       arith,
       entry.requires.0.gates,
-      entry.requires.0.source-is-gate loop.i loop-test.true,
+      entry.requires.0.source_is_gate loop.i loop-test.true,
       c.before.at.ensures,
-      entry.requires.0.target-is-gate loop.i loop-test.true,
+      entry.requires.0.target_is_gate loop.i loop-test.true,
       c.at2.ensures,
     )
 
@@ -78,15 +78,15 @@ loop-again c =
     let source = c.before.at in
     let a = entry.args in
     let few = entry.requires.0.gates in
-    let s = entry.requires.0.source-is-gate loop.i loop-test.true in
-    let t = entry.requires.0.target-is-gate loop.i loop-test.true in
+    let s = entry.requires.0.source_is_gate loop.i loop-test.true in
+    let t = entry.requires.0.target_is_gate loop.i loop-test.true in
     let e = source.ensures in
     let f = c.at2.ensures in
     let l = entry.requires.1.0 in
     let k = loop.invariant.1 in (
       omega arith,
       search rules,
-      pairs-marked a.sources.now a.targets.now loop.i source.result c.at2.result e f max-gates loop.square few (omega arith) (omega arith) loop.invariant.2,
+      pairs_marked a.sources.now a.targets.now loop.i source.result c.at2.result e f max_gates loop.square few (omega arith) (omega arith) loop.invariant.2,
     )
 
 same_length : tie.Need-same-length invariant-loop decreases-loop

@@ -1,7 +1,7 @@
 -- `loops::visit_row` meets its contract: a gate that does not lead to k leads nowhere through it.
 -- Assumes nothing.
 use borrow.Author.Rules.{rules}
-use Rattle.loops.proofs.Square.{row-passed}
+use Rattle.loops.proofs.Square.{row_passed}
 use Rattle.loops.proofs.visit_row.Statement.{statement}
 use Rattle.loops.proofs.visit_row.Tie as tie
 
@@ -18,7 +18,7 @@ returns : tie.Need-returns
 returns c =
     let entry = c.before.before.before in
     let g = entry.args in
-    λ start C. row-passed start g.n entry.requires.0.0 g.k g.a entry.requires.0.2 g.square.now C entry.requires.0.1 c.if1.true
+    λ start C. row_passed start g.n entry.requires.0.0 g.k g.a entry.requires.0.2 g.square.now C entry.requires.0.1 c.if1.true
 
 close-row-requires : tie.Need-close-row-requires
 close-row-requires c κs =

@@ -5,7 +5,7 @@ use mathlib.Core.Path.{subst}
 use borrow.Author.Tests.{not-true, not-false}
 use Rattle.ordering.specs.Order.{OrderFound}
 use Rattle.network.specs.Judged.{FaultFound}
-use Rattle.network.proofs.Judgement.{lowest-found, sound-judged, ends-judged}
+use Rattle.network.proofs.Judgement.{lowest_found, sound_judged, ends_judged}
 use Rattle.network.proofs.judge_network.Statement.{statement}
 use Rattle.network.proofs.judge_network.Tie as tie
 
@@ -25,7 +25,7 @@ returns c =
     let a = entry.args in
     let o = order-gates.new.1.1.1.1.0 in
     let e = not-true order-gates.result c.before.if1.true in (
-      λ B I. lowest-found B a.n a.m a.sources.now a.targets.now I entry.requires.0
+      λ B I. lowest_found B a.n a.m a.sources.now a.targets.now I entry.requires.0
           (subst (OrderFound B o) e (order-gates.ensures.0 B I)) c.lowest-on-loop.result (c.lowest-on-loop.ensures B I),
       order-gates.ensures.1,
     )
@@ -49,7 +49,7 @@ returns-2 c =
     let lowest-at-fault = c.before.before.lowest-at-fault in
     let o = order-gates.new.1.1.1.1.0 in
     let e = not-false order-gates.result if1.false in (
-      λ B I. sound-judged B o (subst (OrderFound B o) e (order-gates.ensures.0 B I))
+      λ B I. sound_judged B o (subst (OrderFound B o) e (order-gates.ensures.0 B I))
           (subst (FaultFound B) c.enum_told.given.1 (lowest-at-fault.ensures B I)),
       order-gates.ensures.1,
     )
@@ -64,7 +64,7 @@ returns-3 c =
     let lowest-at-fault = c.before.before.before.lowest-at-fault in
     let o = order-gates.new.1.1.1.1.0 in
     let e = not-false order-gates.result if1.false in (
-      λ B I. ends-judged B o (subst (OrderFound B o) e (order-gates.ensures.0 B I)) _
+      λ B I. ends_judged B o (subst (OrderFound B o) e (order-gates.ensures.0 B I)) _
           (subst (FaultFound B) c.before.faults.given.1 (lowest-at-fault.ensures B I)),
       order-gates.ensures.1,
     )

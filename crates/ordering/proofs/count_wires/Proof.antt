@@ -5,13 +5,13 @@ use mathlib.Core.Path.{◌≡◌, refl, ◌∙◌}
 use Prim.Native.Nat.{ℕ, ◌+◌, ◌≤◌, ◌-◌}
 use native.Mathlib.Omega.{arith}
 use lib.ListN.{length, get_or, length-set}
-use Rattle.ordering.specs.Counts.{wires-into}
-use Rattle.ordering.proofs.Counts.{wires-none, wires-few, wires-more}
+use Rattle.ordering.specs.Counts.{wires_into}
+use Rattle.ordering.proofs.Counts.{wires_none, wires_few, wires_more}
 use Rattle.ordering.proofs.count_wires.Statement.{statement}
 use Rattle.ordering.proofs.count_wires.Tie as tie
 
 abbrev invariant-loop : tie.invariant-loop
-invariant-loop m targets left₀ i₀ left i = (i ≤ m) × (length left ≡ length left₀) × ((g : ℕ) → get_or left g 0 ≡ wires-into targets i g)
+invariant-loop m targets left₀ i₀ left i = (i ≤ m) × (length left ≡ length left₀) × ((g : ℕ) → get_or left g 0 ≡ wires_into targets i g)
 
 abbrev decreases-loop : tie.decreases-loop
 decreases-loop m targets left₀ i₀ left i = m - i
@@ -19,7 +19,7 @@ decreases-loop m targets left₀ i₀ left i = m - i
 loop-holds : tie.Need-loop-init invariant-loop decreases-loop
 loop-holds c =
     let entry = c.before.before in
-    (omega arith, refl, wires-none entry.args.targets.now entry.args.left.now entry.requires.1.1)
+    (omega arith, refl, wires_none entry.args.targets.now entry.args.left.now entry.requires.1.1)
 
 at-requires : tie.Need-at-requires invariant-loop decreases-loop
 at-requires c κs = search rules
@@ -35,7 +35,7 @@ add_left : tie.Need-overflow-add-left invariant-loop decreases-loop
 add_left c =
     let entry = c.before.before.before.before.before.before in
     let loop = c.before.before.before.loop in
-    let few = wires-few entry.args.targets.now loop.i c.before.at.result in
+    let few = wires_few entry.args.targets.now loop.i c.before.at.result in
     omega (arith, loop.invariant.2 c.before.at.result, entry.requires.0.0)
 
 slice-write-left : tie.Need-slice-write-left invariant-loop decreases-loop
@@ -57,7 +57,7 @@ loop-again c =
     let e = c.before.at.ensures in (
       omega arith,
       length-set loop.left g (get_or loop.left g 0 + 1) ∙ loop.invariant.1,
-      wires-more entry.args.targets.now loop.left loop.i g e (omega arith) loop.invariant.2,
+      wires_more entry.args.targets.now loop.left loop.i g e (omega arith) loop.invariant.2,
     )
 
 same_length : tie.Need-same-length invariant-loop decreases-loop

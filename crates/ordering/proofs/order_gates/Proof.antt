@@ -3,10 +3,10 @@
 use borrow.Author.Rules.{rules}
 use mathlib.Core.Path.{◌∙◌}
 use native.Mathlib.Omega.{arith}
-use Rattle.model.specs.Limits.{max-gates}
+use Rattle.model.specs.Limits.{max_gates}
 use Rattle.model.proofs.Slack.{zeros}
-use Rattle.ordering.proofs.Chains.{zeros-chainable}
-use Rattle.ordering.proofs.Passing.{counted-begins}
+use Rattle.ordering.proofs.Chains.{zeros_chainable}
+use Rattle.ordering.proofs.Passing.{counted_begins}
 use Rattle.ordering.proofs.Answers.{order-judged}
 use Rattle.ordering.proofs.order_gates.Statement.{statement}
 use Rattle.ordering.proofs.order_gates.Tie as tie
@@ -21,7 +21,7 @@ chain-wires-requires : tie.Need-chain-wires-requires
 chain-wires-requires c κs =
     let entry = c.before.before.before.before.before in
     let L = entry.requires.0 in
-    zeros-chainable entry.args.sources.now L.gates L.wires L.sources-long L.source-is-gate
+    zeros_chainable entry.args.sources.now L.gates L.wires L.sources_long L.source_is_gate
 
 slice-aggregate-count-wires : tie.Need-slice-aggregate-count-wires
 slice-aggregate-count-wires c = search rules
@@ -30,7 +30,7 @@ count-wires-requires : tie.Need-count-wires-requires
 count-wires-requires c κs =
     let L = c.before.before.before.before.before.before.before.before.before.requires.0 in
     let few = L.gates in
-    ((L.wires, L.targets-long), (λ i h. let l = L.target-is-gate i h in omega arith, zeros max-gates))
+    ((L.wires, L.targets_long), (λ i h. let l = L.target_is_gate i h in omega arith, zeros max_gates))
 
 slice-aggregate-place-free : tie.Need-slice-aggregate-place-free
 slice-aggregate-place-free c = search rules
@@ -63,10 +63,10 @@ pass-gates-requires c κs =
     let k = c.before.before.before.before.before.before.before.before.before.before.before.before.before.before.chain-wires.auto.1.1.1.0 in
     let l = c.before.before.before.before.before.before.before.before.before.before.count-wires.auto.1.1.0 in
     let p = c.before.before.before.before.before.before.place-free.auto.1.1.0 in (
-      record { lent = L; heads-long = omega arith; links-long = omega arith; chained = c.before.before.before.before.before.before.before.before.before.before.before.before.before.before.chain-wires.ensures },
+      record { lent = L; heads_long = omega arith; links_long = omega arith; chained = c.before.before.before.before.before.before.before.before.before.before.before.before.before.before.chain-wires.ensures },
       (
         (omega arith, omega arith),
-        counted-begins L c.before.before.before.before.before.before.before.before.before.before.count-wires.ensures c.before.before.before.before.before.before.place-free.ensures,
+        counted_begins L c.before.before.before.before.before.before.before.before.before.before.count-wires.ensures c.before.before.before.before.before.before.place-free.ensures,
       ),
     )
 

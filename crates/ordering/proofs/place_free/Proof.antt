@@ -6,7 +6,7 @@ use Prim.Native.Nat.{◌≤◌, ◌-◌}
 use native.Mathlib.Omega.{arith}
 use lib.ListN.{length}
 use Rattle.ordering.specs.Counts.{FreePlaced}
-use Rattle.ordering.proofs.Counts.{free-none, free-room, free-visited}
+use Rattle.ordering.proofs.Counts.{free_none, free_room, free_visited}
 use Rattle.ordering.proofs.place_free.Statement.{statement}
 use Rattle.ordering.proofs.place_free.Tie as tie
 
@@ -19,7 +19,7 @@ decreases-loop n left order₀ count₀ g₀ order count g = n - g
 loop-holds : tie.Need-loop-init invariant-loop decreases-loop
 loop-holds c =
     let a = c.before.before.args in
-    (omega arith, refl, free-none a.n a.left.now a.order.now)
+    (omega arith, refl, free_none a.n a.left.now a.order.now)
 
 place-if-free-requires : tie.Need-place-if-free-requires invariant-loop decreases-loop
 place-if-free-requires c κs =
@@ -30,7 +30,7 @@ place-if-free-requires c κs =
     let o = entry.requires.1.1 in
     let t = c.before.loop-test.true in
     let e = loop.invariant.1 in
-    let r = free-room loop.invariant.2 t in
+    let r = free_room loop.invariant.2 t in
     ((omega arith, omega arith), (omega arith, omega arith))
 
 add-g : tie.Need-overflow-add-g invariant-loop decreases-loop
@@ -49,7 +49,7 @@ loop-again c =
     let t = c.before.before.before.before.loop-test.true in (
       omega arith,
       visit.auto.1.1.0 ∙ e,
-      free-visited loop.invariant.2 t (omega arith) visit.ensures,
+      free_visited loop.invariant.2 t (omega arith) visit.ensures,
     )
 
 same_length : tie.Need-same-length invariant-loop decreases-loop

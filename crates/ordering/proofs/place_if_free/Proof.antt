@@ -1,7 +1,7 @@
 -- `ordering::place_if_free` meets its contract: each way out is one case of `Visit`.
 -- Assumes nothing.
 use borrow.Author.Rules.{rules}
-use Rattle.ordering.specs.Counts.{waits, placed-now}
+use Rattle.ordering.specs.Counts.{waits, placed_now}
 use Rattle.ordering.proofs.place_if_free.Statement.{statement}
 use Rattle.ordering.proofs.place_if_free.Tie as tie
 
@@ -30,7 +30,7 @@ same_length : tie.Need-same-length
 same_length c = search rules
 
 returns-2 : tie.Need-returns-2
-returns-2 c = placed-now c.if1.false
+returns-2 c = placed_now c.if1.false
 
 pub place-if-free-spec : {M : Type 1} → statement M
 place-if-free-spec = tie.close (tie.spec mul-if1 shared-slice-read-if1 returns cast-order mul-order slice-write-order add-result same_length returns-2)

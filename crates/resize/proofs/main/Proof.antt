@@ -3,7 +3,7 @@ use borrow.Author.Rules.{rules}
 use mathlib.Core.Path.{sym}
 use native.Mathlib.Omega.{arith}
 use lib.Seq.{length-take-le}
-use Rattle.printing.proofs.Outcome.{answer-within}
+use Rattle.printing.proofs.Outcome.{answer_within}
 use Rattle.resize.proofs.main.Statement.{statement}
 use Rattle.resize.proofs.main.Tie as tie
 
@@ -26,10 +26,10 @@ printout-requires : tie.Need-printout-requires
 printout-requires c κs = search rules
 
 array-share-prefix-text : tie.Need-array-share-prefix-text
-array-share-prefix-text c = omega (arith, answer-within c.before.printout.ensures, c.before.printout.auto.1.0)
+array-share-prefix-text c = omega (arith, answer_within c.before.printout.ensures, c.before.printout.auto.1.0)
 
 slice-aggregate-write-all : tie.Need-slice-aggregate-write-all
-slice-aggregate-write-all c = sym (length-take-le _ _ (omega (arith, answer-within c.before.before.printout.ensures, c.before.before.printout.auto.1.0)))
+slice-aggregate-write-all c = sym (length-take-le _ _ (omega (arith, answer_within c.before.before.printout.ensures, c.before.before.printout.auto.1.0)))
 
 write-all-requires : tie.Need-write-all-requires
 write-all-requires c κs = search rules

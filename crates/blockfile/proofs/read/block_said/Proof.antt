@@ -29,7 +29,7 @@ activity-of-requires c κs =
     start.requires.1
 
 returns : tie.Need-returns
-returns c = rw (c.before.before.before.number_at.ensures, c.before.before.number-at2.ensures, c.activity-of.ensures, c.before.number-at3.ensures)
+returns c = rw (c.before.before.before.number_at.ensures, c.before.before.number-at2.ensures, c.activity_of.ensures, c.before.number-at3.ensures)
 
 pub block-said-spec : {M : Type 1} → statement M
 block-said-spec = tie.close (tie.spec shared-slice-read-edition shared-slice-read-t6 cast-t8 number-at-requires number-at-requires-2 number-at-requires-3 activity-of-requires returns)

@@ -4,11 +4,11 @@ use borrow.Author.Rules.{rules}
 use mathlib.Core.Path.{◌∙◌, ap}
 use native.Mathlib.Omega.{arith}
 use lib.ListN.{length}
-use Rattle.model.specs.Edition.{activity-of}
+use Rattle.model.specs.Edition.{activity_of}
 use Rattle.model.specs.File.{gate}
-use Rattle.ranges.proofs.Steps.{gate-length}
-use Rattle.blockfile.proofs.Judged.{Judged, judged, at-most-6, judged-fits}
-use Rattle.blockfile.proofs.Gates.{gate-refused, gate-found}
+use Rattle.ranges.proofs.Steps.{gate_length}
+use Rattle.blockfile.proofs.Judged.{Judged, judged, at_most_6, judged_fits}
+use Rattle.blockfile.proofs.Gates.{gate_refused, gate_found}
 use Rattle.blockfile.proofs.read.read_gate.Statement.{statement}
 use Rattle.blockfile.proofs.read.read_gate.Tie as tie
 
@@ -26,17 +26,17 @@ gate-fault-requires : tie.Need-gate-fault-requires
 gate-fault-requires c κs = search rules
 
 refusal-of-requires : tie.Need-refusal-of-requires
-refusal-of-requires c κs = (omega (arith, c.if1.taken), at-most-6 (field-judged c.before))
+refusal-of-requires c κs = (omega (arith, c.if1.taken), at_most_6 (field-judged c.before))
 
 returns : tie.Need-returns
 returns c =
     let start = c.before.before.before.before.before.before.before.before.before.before.before in
-    gate-refused (field-judged c.before.before) start.args.gate _ _ c.before.if1.taken c.refusal-of.ensures
+    gate_refused (field-judged c.before.before) start.args.gate _ _ c.before.if1.taken c.refusal-of.ensures
 
 number-at-requires : tie.Need-number-at-requires
 number-at-requires c κs =
     let start = c.before.before.before.before.before.before.before.before.before.before in
-    let fits = judged-fits (field-judged c.before) c.if1.left in let h = gate-length start.args.edition (length c.before.before.before.due-body.result.now) fits in omega arith
+    let fits = judged_fits (field-judged c.before) c.if1.left in let h = gate_length start.args.edition (length c.before.before.before.due-body.result.now) fits in omega arith
 
 activity-of-requires : tie.Need-activity-of-requires
 activity-of-requires c κs =
@@ -48,7 +48,7 @@ store-gate-requires c κs =
     let at-if1 = c.before.before.before.before.before.before.before in
     let at-gate-fault = at-if1.before in
     let start = at-gate-fault.before.before.before.before.before.before.before.before.before in
-    ((start.args.edition, judged-fits (field-judged at-gate-fault) at-if1.if1.left), (start.pre.0, start.pre.1.0))
+    ((start.args.edition, judged_fits (field-judged at-gate-fault) at-if1.if1.left), (start.pre.0, start.pre.1.0))
 
 offset-behind-requires : tie.Need-offset-behind-requires
 offset-behind-requires c κs = search rules
@@ -86,7 +86,7 @@ returns-2 c =
     let at-if1 = at-number-at.before in
     let at-gate-fault = at-if1.before in
     let start = at-gate-fault.before.before.before.before.before.before.before.before.before in
-    gate-found (field-judged at-gate-fault) start.args.gate _ _ _ _ at-if1.if1.left (at-activity-of.activity-of.ensures ∙ ap (activity-of start.args.edition) at-number-at.number_at.ensures) at-store-gate.store-gate.ensures c.offset-behind.ensures
+    gate_found (field-judged at-gate-fault) start.args.gate _ _ _ _ at-if1.if1.left (at-activity-of.activity_of.ensures ∙ ap (activity_of start.args.edition) at-number-at.number_at.ensures) at-store-gate.store-gate.ensures c.offset_behind.ensures
 
 pub read-gate-spec : {M : Type 1} → statement M
 read-gate-spec = tie.close (tie.spec due-body-requires due-field-requires gate-fault-requires refusal-of-requires returns number-at-requires activity-of-requires store-gate-requires offset-behind-requires same_length same-length-2 same-length-3 same-length-4 same-length-5 returns-2)

@@ -3,15 +3,15 @@
 use borrow.Author.Rules.{rules}
 use native.Mathlib.Omega.{arith}
 use lib.ListN.{length, length-drop}
-use Rattle.ranges.proofs.Steps.{gate-length, steps-part}
-use Rattle.blockfile.proofs.Stores.{gate-stored}
+use Rattle.ranges.proofs.Steps.{gate_length, steps_part}
+use Rattle.blockfile.proofs.Stores.{gate_stored}
 use Rattle.blockfile.proofs.store.store_gate.Statement.{statement}
 use Rattle.blockfile.proofs.store.store_gate.Tie as tie
 
 number-at-requires : tie.Need-number-at-requires
 number-at-requires c κs =
     let start = c.before.before.before.before.before.before in
-    let h = gate-length start.pre.0.0 (length start.args.body.now) start.pre.0.1 in omega arith
+    let h = gate_length start.pre.0.0 (length start.args.body.now) start.pre.0.1 in omega arith
 
 mul-delays : tie.Need-mul-delays
 mul-delays c = search rules
@@ -28,12 +28,12 @@ slice-write-activities c = search rules
 sub-store-steps : tie.Need-sub-store-steps
 sub-store-steps c =
     let start = c.before.before.before.before.before.before.before in
-    let h = gate-length start.pre.0.0 (length start.args.body.now) start.pre.0.1 in omega arith
+    let h = gate_length start.pre.0.0 (length start.args.body.now) start.pre.0.1 in omega arith
 
 part-store-steps-start : tie.Need-part-store-steps-start
 part-store-steps-start c =
     let start = c.before.before.before.before.before.before.before in
-    (gate-length start.pre.0.0 (length start.args.body.now) start.pre.0.1).least
+    (gate_length start.pre.0.0 (length start.args.body.now) start.pre.0.1).least
 
 part-store-steps-end : tie.Need-part-store-steps-end
 part-store-steps-end c = search rules
@@ -41,8 +41,8 @@ part-store-steps-end c = search rules
 store-steps-requires : tie.Need-store-steps-requires
 store-steps-requires c κs =
     let start = c.before.before.before.before.before.before.before.before.before.before in
-    let h = gate-length start.pre.0.0 (length start.args.body.now) start.pre.0.1 in let room = start.pre.1.1 in
-    ((rw (steps-part start.args.body.now, length-drop) (omega arith), rw (steps-part start.args.body.now, length-drop) (omega arith)), (start.pre.1.0, (room.step-widths, room.drops)))
+    let h = gate_length start.pre.0.0 (length start.args.body.now) start.pre.0.1 in let room = start.pre.1.1 in
+    ((rw (steps_part start.args.body.now, length-drop) (omega arith), rw (steps_part start.args.body.now, length-drop) (omega arith)), (start.pre.1.0, (room.step_widths, room.drops)))
 
 mul-counts : tie.Need-mul-counts
 mul-counts c = search rules
@@ -70,7 +70,7 @@ returns c =
     let at-store-steps = c.before.before.before.before in
     let at-number-at = at-store-steps.before.before.before.before in
     let start = at-number-at.before.before.before.before.before.before.before in
-    let h = start.pre.1.0 in let room = start.pre.1.1 in gate-stored start.args.body.now start.args.gate _ _ _ _ _ _ _ _ _ _ (omega (arith, room.delays)) (omega (arith, room.activities)) (omega (arith, room.counts)) at-number-at.number_at.ensures at-store-steps.store-steps.ensures
+    let h = start.pre.1.0 in let room = start.pre.1.1 in gate_stored start.args.body.now start.args.gate _ _ _ _ _ _ _ _ _ _ (omega (arith, room.delays)) (omega (arith, room.activities)) (omega (arith, room.counts)) at-number-at.number_at.ensures at-store-steps.store-steps.ensures
 
 pub store-gate-spec : {M : Type 1} → statement M
 store-gate-spec = tie.close (tie.spec number-at-requires mul-delays slice-write-delays mul-activities slice-write-activities sub-store-steps part-store-steps-start part-store-steps-end store-steps-requires mul-counts slice-write-counts same_length same-length-2 same-length-3 same-length-4 same-length-5 returns)

@@ -1,25 +1,25 @@
 -- `blocktext::block::print_block` meets its contract: what it hands over to be printed are the numbers of the block. The promise comes first, then what the calls ask. Assumes nothing.
 use borrow.Author.Rules.{rules}
 use native.Mathlib.Omega.{arith}
-use Rattle.holding.proofs.HeldLaws.{startable, slackable, the-limits, the_lent}
-use Rattle.text.proofs.Writing.{as-text}
-use Rattle.blocktext.proofs.BlockLaws.{text-is, listed, spare-fits}
+use Rattle.holding.proofs.HeldLaws.{startable, slackable, the_limits, the_lent}
+use Rattle.text.proofs.Writing.{as_text}
+use Rattle.blocktext.proofs.BlockLaws.{text_is, listed, spare_fits}
 use Rattle.blocktext.proofs.block.print_block.Statement.{statement}
 use Rattle.blocktext.proofs.block.print_block.Tie as tie
 
 returns : tie.Need-returns
 returns c = let start = c.before.before.before.before.before.before.before.before.before.before.before.before.before.before.before.before.before.before.before.before in
     let slacks = c.before.before.before.before.before.before.write-slacks in
-    as-text (text-is start.requires.0.1 _ slacks.new.1.1.1.1.1.1.1.1.1.0 slacks.ensures start.requires.1.0 c.before.before.before.before.before.before.before.before.start-time.ensures) c.before.before.write-block.ensures.1
+    as_text (text_is start.requires.0.1 _ slacks.new.1.1.1.1.1.1.1.1.1.0 slacks.ensures start.requires.1.0 c.before.before.before.before.before.before.before.before.start-time.ensures) c.before.before.write-block.ensures.1
 
 start-time-requires : tie.Need-start-time-requires
 start-time-requires c κs = startable c.before.before.before.before.before.before.before.before.before.before.before.requires.0.1
 
 add-spare : tie.Need-overflow-add-spare
-add-spare c = omega (arith, (the-limits c.before.before.before.before.before.before.before.before.before.before.before.before.requires.0.1).arrival-most, c.start-time.ensures.small)
+add-spare c = omega (arith, (the_limits c.before.before.before.before.before.before.before.before.before.before.before.before.requires.0.1).arrival_most, c.start-time.ensures.small)
 
 sub-spare : tie.Need-overflow-sub-spare
-sub-spare c = let start = c.before.before.before.before.before.before.before.before.before.before.before.before in spare-fits start.requires.0.1 start.requires.1.0 c.start-time.ensures
+sub-spare c = let start = c.before.before.before.before.before.before.before.before.before.before.before.before in spare_fits start.requires.0.1 start.requires.1.0 c.start-time.ensures
 
 slice-aggregate-write-slacks : tie.Need-slice-aggregate-write-slacks
 slice-aggregate-write-slacks c = search rules

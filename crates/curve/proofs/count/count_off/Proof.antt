@@ -4,14 +4,14 @@ use mathlib.Core.Logic.{inl, inr}
 use Prim.Native.Nat.{◌+◌, ◌-◌}
 use native.Mathlib.Omega.{arith}
 use borrow.Author.Tests.{ltb-true, ltb-false}
-use Rattle.lists.proofs.Over.{length-build}
-use Rattle.curve.specs.Position.{pairs-in}
-use Rattle.curve.proofs.Counting.{Counted, counting-starts, counting-ends, turn-takes, turn-shortens, turn-fits, turn-counts}
+use Rattle.lists.proofs.Over.{length_build}
+use Rattle.curve.specs.Position.{pairs_in}
+use Rattle.curve.proofs.Counting.{Counted, counting_starts, counting_ends, turn_takes, turn_shortens, turn_fits, turn_counts}
 use Rattle.curve.proofs.count.count_off.Statement.{statement}
 use Rattle.curve.proofs.count.count_off.Tie as tie
 
 abbrev invariant-loop : tie.invariant-loop
-invariant-loop widths gains pairs ticks next₀ left₀ earned₀ next left earned = Counted (pairs-in pairs widths gains) ticks next left earned
+invariant-loop widths gains pairs ticks next₀ left₀ earned₀ next left earned = Counted (pairs_in pairs widths gains) ticks next left earned
 
 abbrev decreases-loop : tie.decreases-loop
 decreases-loop widths gains pairs ticks next₀ left₀ earned₀ next left earned = left + (pairs - next.pair)
@@ -20,7 +20,7 @@ front-requires : tie.Need-front-requires invariant-loop decreases-loop
 front-requires c κs = search rules
 
 loop-holds : tie.Need-loop-init invariant-loop decreases-loop
-loop-holds c = rw c.front.ensures (counting-starts _ _)
+loop-holds c = rw c.front.ensures (counting_starts _ _)
 
 take-requires : tie.Need-take-requires invariant-loop decreases-loop
 take-requires c κs = search rules
@@ -30,7 +30,7 @@ sub-left c =
     let a = c.before.before.before.before.before.before.before.before.before.before.args in
     let l = c.before.before.before.before.before.before.loop in
     let t = c.before.before.take in
-    turn-takes a.pairs a.widths.now a.gains.now a.ticks l.next l.left l.earned t.result t.ensures
+    turn_takes a.pairs a.widths.now a.gains.now a.ticks l.next l.left l.earned t.result t.ensures
 
 cast-earned : tie.Need-overflow-cast-earned invariant-loop decreases-loop
 cast-earned c = search rules
@@ -40,34 +40,34 @@ mul-earned c =
     let a = c.before.before.before.before.before.before.before.before.before.before.before.before.args in
     let l = c.before.before.before.before.before.before.before.before.loop in
     let t = c.before.before.before.before.take in
-    let all = turn-fits a.pairs a.widths.now a.gains.now a.ticks l.next l.left l.earned t.result t.ensures l.invariant c.before.before.before.before.before.before.before.before.before.before.before.before.requires in record { fits = omega arith }
+    let all = turn_fits a.pairs a.widths.now a.gains.now a.ticks l.next l.left l.earned t.result t.ensures l.invariant c.before.before.before.before.before.before.before.before.before.before.before.before.requires in record { fits = omega arith }
 
 add-earned : tie.Need-overflow-add-earned invariant-loop decreases-loop
 add-earned c =
     let a = c.before.before.before.before.before.before.before.before.before.before.before.before.args in
     let l = c.before.before.before.before.before.before.before.before.loop in
     let t = c.before.before.before.before.take in
-    record { fits = turn-fits a.pairs a.widths.now a.gains.now a.ticks l.next l.left l.earned t.result t.ensures l.invariant c.before.before.before.before.before.before.before.before.before.before.before.before.requires }
+    record { fits = turn_fits a.pairs a.widths.now a.gains.now a.ticks l.next l.left l.earned t.result t.ensures l.invariant c.before.before.before.before.before.before.before.before.before.before.before.before.requires }
 
 loop-less : tie.Need-loop-smaller invariant-loop decreases-loop
 loop-less c =
     let a = c.before.before.before.before.before.before.before.before.before.before.before.before.args in
     let l = c.before.before.before.before.before.before.before.before.loop in
     let t = c.before.before.before.before.take in
-    turn-shortens a.pairs a.widths.now a.gains.now a.ticks l.next l.left l.earned t.result t.ensures c.before.before.before.before.before.before.before.loop-test.true (ltb-true _ _ c.before.before.before.before.before.if1.true)
+    turn_shortens a.pairs a.widths.now a.gains.now a.ticks l.next l.left l.earned t.result t.ensures c.before.before.before.before.before.before.before.loop-test.true (ltb-true _ _ c.before.before.before.before.before.if1.true)
 
 loop-again : tie.Need-loop-preserved invariant-loop decreases-loop
 loop-again c =
     let a = c.before.before.before.before.before.before.before.before.before.before.before.before.args in
     let l = c.before.before.before.before.before.before.before.before.loop in
     let t = c.before.before.before.before.take in
-    turn-counts a.pairs a.widths.now a.gains.now a.ticks l.next l.left l.earned t.result t.ensures l.invariant
+    turn_counts a.pairs a.widths.now a.gains.now a.ticks l.next l.left l.earned t.result t.ensures l.invariant
 
 returns : tie.Need-returns invariant-loop decreases-loop
-returns c = counting-ends _ _ _ _ _ c.before.before.before.loop.invariant (inr (rw length-build (ltb-false _ _ c.if1.false)))
+returns c = counting_ends _ _ _ _ _ c.before.before.before.loop.invariant (inr (rw length_build (ltb-false _ _ c.if1.false)))
 
 returns-2 : tie.Need-returns-2 invariant-loop decreases-loop
-returns-2 c = counting-ends _ _ _ _ _ c.before.loop.invariant (inl (omega (arith, c.loop-test.false)))
+returns-2 c = counting_ends _ _ _ _ _ c.before.loop.invariant (inl (omega (arith, c.loop-test.false)))
 
 pub count-off-spec : {M : Type 1} → statement M
 count-off-spec =

@@ -2,20 +2,20 @@
 use borrow.Author.Rules.{rules}
 use Prim.Native.Nat.{◌-◌}
 use native.Mathlib.Omega.{arith}
-use Rattle.lists.proofs.Over.{length-build}
-use Rattle.curve.specs.Position.{pairs-in}
-use Rattle.curve.proofs.Reaching.{Reaching, at-start-enough, reaching-starts, nowhere, turn-shortens, turn-fits, turn-passes, turn-gains, turn-reaches, turn-few}
+use Rattle.lists.proofs.Over.{length_build}
+use Rattle.curve.specs.Position.{pairs_in}
+use Rattle.curve.proofs.Reaching.{Reaching, at_start_enough, reaching_starts, nowhere, turn_shortens, turn_fits, turn_passes, turn_gains, turn_reaches, turn_few}
 use Rattle.curve.proofs.reach.ticks_for.Statement.{statement}
 use Rattle.curve.proofs.reach.ticks_for.Tie as tie
 
 abbrev invariant-loop : tie.invariant-loop
-invariant-loop widths gains pairs at-start wanted next₀ ticks₀ need₀ next ticks need = Reaching (pairs-in pairs widths gains) at-start wanted next ticks need
+invariant-loop widths gains pairs at_start wanted next₀ ticks₀ need₀ next ticks need = Reaching (pairs_in pairs widths gains) at_start wanted next ticks need
 
 abbrev decreases-loop : tie.decreases-loop
-decreases-loop widths gains pairs at-start wanted next₀ ticks₀ need₀ next ticks need = pairs - next.pair
+decreases-loop widths gains pairs at_start wanted next₀ ticks₀ need₀ next ticks need = pairs - next.pair
 
 returns : tie.Need-returns invariant-loop decreases-loop
-returns c = at-start-enough _ _ _ c.if1.true
+returns c = at_start_enough _ _ _ c.if1.true
 
 front-requires : tie.Need-front-requires invariant-loop decreases-loop
 front-requires c κs = search rules
@@ -24,7 +24,7 @@ sub-need : tie.Need-overflow-sub-need invariant-loop decreases-loop
 sub-need c = search rules
 
 loop-holds : tie.Need-loop-init invariant-loop decreases-loop
-loop-holds c = rw c.front.ensures (reaching-starts _ _ _ c.before.if1.false)
+loop-holds c = rw c.front.ensures (reaching_starts _ _ _ c.before.if1.false)
 
 rest-requires : tie.Need-rest-requires invariant-loop decreases-loop
 rest-requires c κs = search rules
@@ -37,21 +37,21 @@ mul-earned c =
     let a = c.before.before.before.before.before.before.before.before.before.before.args in
     let l = c.before.before.before.before.before.loop in
     let t = c.before.before.rest in
-    record { fits = turn-fits a.pairs a.widths.now a.gains.now a.at-start a.wanted l.next l.ticks l.need l.invariant (omega arith) t.result t.ensures c.before.before.before.before.before.before.before.before.before.before.requires.1 }
+    record { fits = turn_fits a.pairs a.widths.now a.gains.now a.at_start a.wanted l.next l.ticks l.need l.invariant (omega arith) t.result t.ensures c.before.before.before.before.before.before.before.before.before.before.requires.1 }
 
 ticks-of-requires : tie.Need-ticks-of-requires invariant-loop decreases-loop
 ticks-of-requires c κs =
     let a = c.before.before.before.before.before.before.before.before.before.before.before.args in
     let l = c.before.before.before.before.before.before.loop in
     let t = c.before.before.before.rest in
-    (turn-gains a.pairs a.widths.now a.gains.now a.at-start a.wanted l.next l.ticks l.need l.invariant (omega arith) t.result t.ensures (omega arith), omega (arith, l.invariant.some))
+    (turn_gains a.pairs a.widths.now a.gains.now a.at_start a.wanted l.next l.ticks l.need l.invariant (omega arith) t.result t.ensures (omega arith), omega (arith, l.invariant.some))
 
 add-reached : tie.Need-overflow-add-reached invariant-loop decreases-loop
 add-reached c =
     let a = c.before.before.before.before.before.before.before.before.before.before.before.before.args in
     let l = c.before.before.before.before.before.before.before.loop in
     let t = c.before.before.before.before.rest in
-    let few = turn-few a.pairs a.widths.now a.gains.now a.at-start a.wanted l.next l.ticks l.need l.invariant (omega arith) t.result t.ensures (omega arith) c.ticks-of.ensures in
+    let few = turn_few a.pairs a.widths.now a.gains.now a.at_start a.wanted l.next l.ticks l.need l.invariant (omega arith) t.result t.ensures (omega arith) c.ticks-of.ensures in
     omega (arith, l.invariant.few, c.before.before.before.before.before.before.before.before.before.before.before.before.requires.0)
 
 returns-2 : tie.Need-returns-2 invariant-loop decreases-loop
@@ -59,7 +59,7 @@ returns-2 c =
     let a = c.before.before.before.before.before.before.before.before.before.before.before.before.args in
     let l = c.before.before.before.before.before.before.before.loop in
     let t = c.before.before.before.before.rest in
-    turn-reaches a.pairs a.widths.now a.gains.now a.at-start a.wanted l.next l.ticks l.need l.invariant (omega arith) t.result t.ensures (omega arith) c.ticks-of.ensures
+    turn_reaches a.pairs a.widths.now a.gains.now a.at_start a.wanted l.next l.ticks l.need l.invariant (omega arith) t.result t.ensures (omega arith) c.ticks-of.ensures
 
 sub-need-2 : tie.Need-overflow-sub-need-2 invariant-loop decreases-loop
 sub-need-2 c = search rules
@@ -75,17 +75,17 @@ loop-less c =
     let a = c.before.before.before.before.before.before.before.before.before.before.before.before.before.args in
     let l = c.before.before.before.before.before.before.before.before.loop in
     let t = c.before.before.before.before.before.rest in
-    turn-shortens a.pairs a.widths.now a.gains.now a.at-start a.wanted l.next l.ticks l.need l.invariant (omega arith) t.result t.ensures
+    turn_shortens a.pairs a.widths.now a.gains.now a.at_start a.wanted l.next l.ticks l.need l.invariant (omega arith) t.result t.ensures
 
 loop-again : tie.Need-loop-preserved invariant-loop decreases-loop
 loop-again c =
     let a = c.before.before.before.before.before.before.before.before.before.before.before.before.before.args in
     let l = c.before.before.before.before.before.before.before.before.loop in
     let t = c.before.before.before.before.before.rest in
-    turn-passes a.pairs a.widths.now a.gains.now a.at-start a.wanted l.next l.ticks l.need l.invariant (omega arith) t.result t.ensures (omega arith) (omega arith)
+    turn_passes a.pairs a.widths.now a.gains.now a.at_start a.wanted l.next l.ticks l.need l.invariant (omega arith) t.result t.ensures (omega arith) (omega arith)
 
 returns-3 : tie.Need-returns-3 invariant-loop decreases-loop
-returns-3 c = nowhere c.before.before.loop.invariant (rw length-build (omega arith))
+returns-3 c = nowhere c.before.before.loop.invariant (rw length_build (omega arith))
 
 pub ticks-for-spec : {M : Type 1} → statement M
 ticks-for-spec =

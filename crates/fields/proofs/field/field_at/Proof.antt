@@ -3,18 +3,18 @@
 use borrow.Author.Rules.{rules}
 use mathlib.Core.Path.{sym}
 use native.Mathlib.Omega.{arith}
-use Rattle.model.proofs.Fields.{header-cut, body-cut, whole}
+use Rattle.model.proofs.Fields.{header_cut, body_cut, whole}
 use Rattle.fields.proofs.field.field_at.Statement.{statement}
 use Rattle.fields.proofs.field.field_at.Tie as tie
 
 returns : tie.Need-returns
-returns c = sym (header-cut _ _ (omega arith))
+returns c = sym (header_cut _ _ (omega arith))
 
 sub-if2 : tie.Need-overflow-sub-if2
 sub-if2 c = search rules
 
 returns-2 : tie.Need-returns-2
-returns-2 c = sym (header-cut _ _ (omega arith))
+returns-2 c = sym (header_cut _ _ (omega arith))
 
 add-from : tie.Need-overflow-add-from
 add-from c = search rules
@@ -35,7 +35,7 @@ shared-slice-read-t10 : tie.Need-shared-slice-read-t10
 shared-slice-read-t10 c = search rules
 
 returns-3 : tie.Need-returns-3
-returns-3 c = rw c.before.before.number_at.ensures (sym (body-cut _ _ (omega arith) (omega arith)))
+returns-3 c = rw c.before.before.number_at.ensures (sym (body_cut _ _ (omega arith) (omega arith)))
 
 shared-slice-read-t12 : tie.Need-shared-slice-read-t12
 shared-slice-read-t12 c = search rules

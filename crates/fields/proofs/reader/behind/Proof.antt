@@ -41,7 +41,7 @@ use denote.Triple.Table.{entered, cited}
 use denote.Triple.Walked.{says, Stays, stay_none, walk_of, Goes-none, Walks, ends_at, walked, walk_Meets}
 use denote.Exit.{yes}
 use denote.Triple.Clauses.{ensured, lasts}
-use Rattle.fields.specs.Behind.{offset-behind}
+use Rattle.fields.specs.Behind.{offset_behind}
 use Rattle.fields.specs.declared.reader.FieldReader.{FieldReader}
 use Rattle.fields.specs.contracts.reader.FieldReader as T
 use Rattle.fields.proofs.reader.FieldReader.TheLaws as T'
@@ -77,7 +77,7 @@ module _ {M : Type 1} {𝓤 : Ura M} (𝓛 : Logic 𝓤) (mem : Memory → SProp
   v = slice_val d.file.ref_ptr (length d.file.now)
 
   abbrev further : ℕ
-  further = offset-behind d.file.now d.offset
+  further = offset_behind d.file.now d.offset
 
   -- the struct with another number, and its machine value
   abbrev moved : ℕ → FieldReader

@@ -39,7 +39,7 @@ use denote.Triple.Table.{entered, cited}
 use denote.Triple.Walked.{says, Stays, stay_none, stay_none_slice, walk_of, Goes-none, Goes-none_slice, Walks, ends_at, walked, walk_Meets}
 use denote.Exit.{yes}
 use denote.Triple.Clauses.{ensured, lasts}
-use Rattle.fields.specs.Behind.{offset-behind}
+use Rattle.fields.specs.Behind.{offset_behind}
 use Rattle.fields.specs.declared.reader.FieldReader.{FieldReader}
 use Rattle.fields.specs.contracts.reader.FieldReader as T
 use Rattle.fields.proofs.reader.FieldReader.TheLaws as T'
@@ -82,7 +82,7 @@ module _ {M : Type 1} {𝓤 : Ura M} (𝓛 : Logic 𝓤) (mem : Memory → SProp
   at = (v ∷ [], (vint w64 n ∷ [], tt))
 
   abbrev found : ℕ
-  found = offset-behind s.now n
+  found = offset_behind s.now n
 
   -- the struct's type as a local of a body has it
   abbrev αᵉ : NamedLft
@@ -114,8 +114,8 @@ module _ {M : Type 1} {𝓤 : Ura M} (𝓛 : Logic 𝓤) (mem : Memory → SProp
   goes-behind : (r : FieldReader) (u : Val) → ent 𝓤 (⋆ 𝓛 (‵ ((B (κ, tt)).own r (u ∷ [])) ∷ (‵ (flft κ q) ⊛ ‵ ftrue) ∷ [])) ((Behind 𝓛 mem run).pre (to-behind r u))
   goes-behind r u = qed 𝓛 (‵ ((B (κ, tt)).own r (u ∷ [])) ∷ (‵ (flft κ q) ⊛ ‵ ftrue) ∷ []) ∵ nothing ! $ move ! (1 ∷ 0 ∷ []) $ fjoin ! $ move ! (1 ∷ 0 ∷ []) $ join ! $ frame ! $ done !
 
-  behind-said : (r t : FieldReader) → ent 𝓤 (ensured 𝓛 behind.ended (behind.clauses 𝓛 mem run) (κ, tt) (r, tt) tt t) (fact 𝓤 ((t.file ≡ r.file) × (t.offset ≡ offset-behind r.file.now r.offset)))
-  behind-said r t = ex_e 𝓤 _ (λ ws. snd∗ 𝓤 (sem 𝓛 (lasts behind.ended (κ, tt) (r, tt) ws)) (fact 𝓤 ((t.file ≡ r.file) × (t.offset ≡ offset-behind r.file.now r.offset))))
+  behind-said : (r t : FieldReader) → ent 𝓤 (ensured 𝓛 behind.ended (behind.clauses 𝓛 mem run) (κ, tt) (r, tt) tt t) (fact 𝓤 ((t.file ≡ r.file) × (t.offset ≡ offset_behind r.file.now r.offset)))
+  behind-said r t = ex_e 𝓤 _ (λ ws. snd∗ 𝓤 (sem 𝓛 (lasts behind.ended (κ, tt) (r, tt) ws)) (fact 𝓤 ((t.file ≡ r.file) × (t.offset ≡ offset_behind r.file.now r.offset))))
 
   -- the machine value of a struct in a local
   machine : (t : FieldReader) (u : Val) → Is (B (κ, tt)) t (u ∷ []) → u ≡ T'.lowered t
@@ -146,7 +146,7 @@ module _ {M : Type 1} {𝓤 : Ura M} (𝓛 : Logic 𝓤) (mem : Memory → SProp
         use2 𝓛 (raw ((Behind 𝓛 mem run).pre (to-behind r u))) (goes-behind r u) $
         calls_at ! fm (Behind 𝓛 mem run) Known-Behind (to-behind r u) (and_then ! (load ! (from ! (stop !)) (look ! 2 refl)) (no_more !)) (λ u'.
         use1 𝓛 (later (some (λ (t : FieldReader). ((‵ (flft κ q) ⊛ ‵ ftrue) ⊛ ‵ ((B (κ, tt)).own t (u' ∷ []))) ⊛ raw (ensured 𝓛 behind.ended (behind.clauses 𝓛 mem run) (κ, tt) (r, tt) tt t)))) (id⊢ 𝓤 _) $ await ! tt $ pick ! (λ t.
-        split ! $ move ! (1 ∷ []) $ use1 𝓛 (raw (fact 𝓤 ((t.file ≡ r.file) × (t.offset ≡ offset-behind r.file.now r.offset)))) (behind-said r t) $ heard ! ((t.file ≡ r.file) × (t.offset ≡ offset-behind r.file.now r.offset)) (λ e'. split ! $ move ! (1 ∷ []) $
+        split ! $ move ! (1 ∷ []) $ use1 𝓛 (raw (fact 𝓤 ((t.file ≡ r.file) × (t.offset ≡ offset_behind r.file.now r.offset)))) (behind-said r t) $ heard ! ((t.file ≡ r.file) × (t.offset ≡ offset_behind r.file.now r.offset)) (λ e'. split ! $ move ! (1 ∷ []) $
         -- [what the second struct owns; the token; what s owns; _4; …; room for _3; …; _2; …; _1; …; room for _0; …]
         peeks ! (B (κ, tt)) (Is (B (κ, tt))) (shows 𝓛 (B (κ, tt))) t (u' ∷ []) (λ is'.
         rw (machine t u' is') (

@@ -2,7 +2,7 @@
 use mathlib.Core.Path.{refl}
 use Prim.Native.Nat.{◌-◌}
 use native.Mathlib.Omega.{arith}
-use Rattle.heads.proofs.Renewing.{ClimbedIn, starts, makes, node-on-way, rises, further, ends, at_top}
+use Rattle.heads.proofs.Renewing.{ClimbedIn, starts, makes, node_on_way, rises, further, ends, at_top}
 use Rattle.heads.proofs.below.renew_up.Statement.{statement}
 use Rattle.heads.proofs.below.renew_up.Tie as tie
 
@@ -19,7 +19,7 @@ renew-requires : tie.Need-renew-requires invariant-loop decreases-loop
 renew-requires c κs = makes c.before.before.before.requires c.before.before.loop.invariant
 
 parent-at-requires : tie.Need-parent-at-requires invariant-loop decreases-loop
-parent-at-requires c κs = node-on-way c.before.before.before.before.requires c.before.before.before.loop.invariant
+parent-at-requires c κs = node_on_way c.before.before.before.before.requires c.before.before.before.loop.invariant
 
 loop-less : tie.Need-loop-smaller invariant-loop decreases-loop
 loop-less c = let r = rises c.before.before.before.before.before.requires c.before.before.before.before.loop.invariant c.parent-at.ensures c.before.before.before.loop-test.true in omega arith

@@ -2,7 +2,7 @@
 use borrow.Author.Rules.{rules}
 use native.Mathlib.Omega.{arith}
 use Rattle.ties.proofs.Keys.{rank_below}
-use Rattle.heads.proofs.Stepping.{gate-added}
+use Rattle.heads.proofs.Stepping.{gate_added}
 use Rattle.heads.proofs.gate.gate_give_out.Statement.{statement}
 use Rattle.heads.proofs.gate.gate_give_out.Tie as tie
 
@@ -34,7 +34,7 @@ same_length : tie.Need-same-length
 same_length c = search rules
 
 returns : tie.Need-returns
-returns c = gate-added _ _ _ _ c.before.before.before.before.index.ensures c.before.before.gate-head.ensures (rank_below _) c.write-gate.ensures
+returns c = gate_added _ _ _ _ c.before.before.before.before.index.ensures c.before.before.gate_head.ensures (rank_below _) c.write-gate.ensures
 
 pub gate-give-out-spec : {M : Type 1} → statement M
 gate-give-out-spec = tie.close (tie.spec index-requires mul-more slice-read-more add-more mul-increases slice-write-increases gate-head-requires write-gate-requires same_length returns)

@@ -4,13 +4,13 @@ use borrow.Author.Rules.{rules}
 use Prim.Native.Nat.{ℕ, ◌-◌}
 use native.Mathlib.Omega.{arith}
 use Rattle.optimum.specs.Head.{rank}
-use Rattle.blockwords.specs.BlockWords.{gates-held, counts_of, widths-of, drops-of, inputs-of}
-use Rattle.heads.proofs.Stepping.{Passed, passed_none, passed-more, found-step, found_none}
+use Rattle.blockwords.specs.BlockWords.{gates_held, counts_of, widths_of, drops_of, inputs_of}
+use Rattle.heads.proofs.Stepping.{Passed, passed_none, passed_more, found_step, found_none}
 use Rattle.heads.proofs.gate.gate_head.Statement.{statement}
 use Rattle.heads.proofs.gate.gate_head.Tie as tie
 
 abbrev invariant-loop : tie.invariant-loop
-invariant-loop g k block count left₀ j₀ left j = Passed (gates-held block) (counts_of block) (widths-of block) (drops-of block) (inputs-of block) g k j left
+invariant-loop g k block count left₀ j₀ left j = Passed (gates_held block) (counts_of block) (widths_of block) (drops_of block) (inputs_of block) g k j left
 
 abbrev decreases-loop : tie.decreases-loop
 decreases-loop g k block count left₀ j₀ left j = count - j
@@ -40,10 +40,10 @@ rank-requires : tie.Need-rank-requires invariant-loop decreases-loop
 rank-requires c κs = search rules
 
 tick-head-requires : tie.Need-tick-head-requires invariant-loop decreases-loop
-tick-head-requires c κs = (rw c.before.before.before.step-drop.ensures (c.before.before.before.before.before.before.before.before.before.requires.1.drop-small c.before.before.before.before.before.before.before.before.before.args.g c.before.before.before.before.before.before.before.loop.j c.before.before.before.before.before.before.before.before.before.requires.0 (rw c.before.before.before.before.before.before.before.before.step_count.ensures at c.before.before.before.before.before.before.loop-test.true)), rw c.before.before.Input-of.ensures (c.before.before.before.before.before.before.before.before.before.requires.1.input-small c.before.before.before.before.before.before.before.before.before.args.g c.before.before.before.before.before.before.before.before.before.requires.0), omega (arith, c.rank.ensures, c.before.gate-count.ensures, c.before.before.before.before.before.before.before.before.before.requires.0, c.before.before.before.before.before.before.before.before.before.requires.1.gates))
+tick-head-requires c κs = (rw c.before.before.before.step-drop.ensures (c.before.before.before.before.before.before.before.before.before.requires.1.drop_small c.before.before.before.before.before.before.before.before.before.args.g c.before.before.before.before.before.before.before.loop.j c.before.before.before.before.before.before.before.before.before.requires.0 (rw c.before.before.before.before.before.before.before.before.step_count.ensures at c.before.before.before.before.before.before.loop-test.true)), rw c.before.before.Input-of.ensures (c.before.before.before.before.before.before.before.before.before.requires.1.input_small c.before.before.before.before.before.before.before.before.before.args.g c.before.before.before.before.before.before.before.before.before.requires.0), omega (arith, c.rank.ensures, c.before.gate_count.ensures, c.before.before.before.before.before.before.before.before.before.requires.0, c.before.before.before.before.before.before.before.before.before.requires.1.gates))
 
 returns : tie.Need-returns invariant-loop decreases-loop
-returns c = found-step c.before.before.before.before.before.before.before.before.loop.invariant (rw c.before.before.before.before.before.before.before.before.before.step_count.ensures at c.before.before.before.before.before.before.before.loop-test.true) c.before.before.before.before.before.before.step-width.ensures c.before.before.before.before.before.if1.true c.before.before.before.before.step-drop.ensures c.before.before.before.Input-of.ensures (c.before.rank.ensures ∙ ap (λ (n : ℕ). rank n c.before.before.before.before.before.before.before.before.before.before.args.g) c.before.before.gate-count.ensures) c.tick-head.ensures
+returns c = found_step c.before.before.before.before.before.before.before.before.loop.invariant (rw c.before.before.before.before.before.before.before.before.before.step_count.ensures at c.before.before.before.before.before.before.before.loop-test.true) c.before.before.before.before.before.before.step-width.ensures c.before.before.before.before.before.if1.true c.before.before.before.before.step-drop.ensures c.before.before.before.Input-of.ensures (c.before.rank.ensures ∙ ap (λ (n : ℕ). rank n c.before.before.before.before.before.before.before.before.before.before.args.g) c.before.before.gate_count.ensures) c.tick-head.ensures
 
 add-j : tie.Need-overflow-add-j invariant-loop decreases-loop
 add-j c = omega (arith, c.before.before.before.before.step_count.ensures, c.before.before.loop-test.true, c.before.before.before.before.before.requires.1.few c.before.before.before.before.before.args.g c.before.before.before.before.before.requires.0)
@@ -52,7 +52,7 @@ loop-less : tie.Need-loop-smaller invariant-loop decreases-loop
 loop-less c = search rules
 
 loop-again : tie.Need-loop-preserved invariant-loop decreases-loop
-loop-again c = passed-more c.before.before.before.loop.invariant (rw c.before.before.before.before.step_count.ensures at c.before.before.loop-test.true) c.before.step-width.ensures (omega arith)
+loop-again c = passed_more c.before.before.before.loop.invariant (rw c.before.before.before.before.step_count.ensures at c.before.before.loop-test.true) c.before.step-width.ensures (omega arith)
 
 none-requires : tie.Need-none-requires invariant-loop decreases-loop
 none-requires c κs = search rules

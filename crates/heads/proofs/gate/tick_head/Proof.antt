@@ -3,7 +3,7 @@ use mathlib.Core.Path.{◌∙◌}
 use borrow.Author.Rules.{rules}
 use native.Mathlib.Nat.{mul-le-mul}
 use native.Mathlib.Omega.{arith}
-use Rattle.heads.proofs.Stepping.{tick-none, tick-some}
+use Rattle.heads.proofs.Stepping.{tick_none, tick_some}
 use Rattle.heads.proofs.gate.tick_head.Statement.{statement}
 use Rattle.heads.proofs.gate.tick_head.Tie as tie
 
@@ -14,13 +14,13 @@ none-requires : tie.Need-none-requires
 none-requires c κs = search rules
 
 returns : tie.Need-returns
-returns c = c.none.ensures ∙ tick-none _ _ _ _ c.before.if1.true
+returns c = c.none.ensures ∙ tick_none _ _ _ _ c.before.if1.true
 
 keyed-requires : tie.Need-keyed-requires
 keyed-requires c κs = (omega (arith, mul-le-mul c.before.requires.0 c.before.requires.1), c.before.requires.2)
 
 returns-2 : tie.Need-returns-2
-returns-2 c = c.keyed.ensures ∙ tick-some _ _ _ _ c.before.if1.false
+returns-2 c = c.keyed.ensures ∙ tick_some _ _ _ _ c.before.if1.false
 
 pub tick-head-spec : {M : Type 1} → statement M
 tick-head-spec = tie.close (tie.spec mul-gain none-requires returns keyed-requires returns-2)

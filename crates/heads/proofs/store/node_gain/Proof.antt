@@ -12,7 +12,7 @@ gain-in-requires : tie.Need-gain-in-requires
 gain-in-requires c κs = search rules
 
 returns : tie.Need-returns
-returns c = c.gain-in.ensures ∙ ap (λ (a : Head). a.gain) c.before.node-entry.ensures
+returns c = c.gain-in.ensures ∙ ap (λ (a : Head). a.gain) c.before.node_entry.ensures
 
 pub node-gain-spec : {M : Type 1} → statement M
 node-gain-spec = tie.close (tie.spec node-entry-requires gain-in-requires returns)

@@ -1,6 +1,6 @@
 -- `heads::store::write_entry` meets its contract: the key written is that of the head. Assumes nothing.
 use borrow.Author.Rules.{rules}
-use Rattle.heads.proofs.Heads.{key-written}
+use Rattle.heads.proofs.Heads.{key_written}
 use Rattle.heads.proofs.store.write_entry.Statement.{statement}
 use Rattle.heads.proofs.store.write_entry.Tie as tie
 
@@ -29,7 +29,7 @@ element-write-heads-2 : tie.Need-element-write-heads-2
 element-write-heads-2 c = search rules
 
 returns : tie.Need-returns
-returns c = let s = c.args in key-written s.heads.now s.e s.a.width s.a.key
+returns c = let s = c.args in key_written s.heads.now s.e s.a.width s.a.key
 
 pub write-entry-spec : {M : Type 1} → statement M
 write-entry-spec =

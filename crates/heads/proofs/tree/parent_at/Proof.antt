@@ -1,7 +1,7 @@
 -- `heads::tree::parent_at` meets its contract. Assumes nothing.
 use borrow.Author.Rules.{rules}
 use mathlib.Core.Path.{◌∙◌}
-use Rattle.heads.proofs.Reading.{parent-read}
+use Rattle.heads.proofs.Reading.{parent_read}
 use Rattle.heads.proofs.tree.parent_at.Statement.{statement}
 use Rattle.heads.proofs.tree.parent_at.Tie as tie
 
@@ -12,7 +12,7 @@ index-requires : tie.Need-index-requires
 index-requires c κs = search rules
 
 returns : tie.Need-returns
-returns c = c.index.ensures ∙ c.before.word_at.ensures ∙ parent-read c.before.before.requires
+returns c = c.index.ensures ∙ c.before.word_at.ensures ∙ parent_read c.before.before.requires
 
 pub parent-at-spec : {M : Type 1} → statement M
 parent-at-spec = tie.close (tie.spec word-at-requires index-requires returns)

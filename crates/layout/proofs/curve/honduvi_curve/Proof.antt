@@ -1,8 +1,8 @@
 -- `layout::curve::honduvi_curve` meets its contract: the answer of `resizing` told in numbers, whose places and number of pairs fit. Assumes nothing.
 use borrow.Author.Rules.{rules}
 use mathlib.Core.Path.{refl}
-use Rattle.laying.proofs.Told.{refusal-not-zero, judged-told, unsaid-zeros}
-use Rattle.layout.proofs.CallPlaces.{curve-place}
+use Rattle.laying.proofs.Told.{refusal_not_zero, judged_told, unsaid_zeros}
+use Rattle.layout.proofs.CallPlaces.{curve_place}
 use Rattle.layout.proofs.curve.honduvi_curve.Statement.{statement}
 use Rattle.layout.proofs.curve.honduvi_curve.Tie as tie
 
@@ -13,7 +13,7 @@ enum-known-answer : tie.Need-enum-known-answer
 enum-known-answer c = search rules
 
 refused-requires : tie.Need-refused-requires
-refused-requires c κs = curve-place c.before.answer.given.0.0 (rw c.before.answer.given.1 at c.before.before.before.before.before.before.before.curve.ensures.0)
+refused-requires c κs = curve_place c.before.answer.given.0.0 (rw c.before.answer.given.1 at c.before.before.before.before.before.before.before.curve.ensures.0)
 
 enum-known-answer-2 : tie.Need-enum-known-answer-2
 enum-known-answer-2 c = search rules
@@ -31,7 +31,7 @@ returns : tie.Need-returns
 returns c =
     let x = c.before.before.answer.given.0.0 in
     let e = c.refused.ensures in
-    (judged-told x _ _ e (rw c.before.before.answer.given.1 at c.before.before.before.before.before.before.before.before.curve.ensures.0), (rw e (unsaid-zeros x 3), λ (none : _). absurd (refusal-not-zero x (rw e at none))))
+    (judged_told x _ _ e (rw c.before.before.answer.given.1 at c.before.before.before.before.before.before.before.before.curve.ensures.0), (rw e (unsaid_zeros x 3), λ (none : _). absurd (refusal_not_zero x (rw e at none))))
 
 same-length-3 : tie.Need-same-length-3
 same-length-3 c = search rules

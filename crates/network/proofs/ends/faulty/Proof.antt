@@ -5,7 +5,7 @@ use mathlib.Core.Logic.{inl}
 use Prim.Native.Nat.{◌-◌}
 use lib.ListN.{get_or}
 use Rattle.network.specs.Misplaced.{Misplaced}
-use Rattle.network.proofs.Misplaced.{says-or}
+use Rattle.network.proofs.Misplaced.{says_or}
 use Rattle.network.proofs.ends.faulty.Statement.{statement}
 use Rattle.network.proofs.ends.faulty.Tie as tie
 
@@ -33,7 +33,7 @@ returns-2 c =
     let if1 = c.before.before.if1 in
     let misplaced = c.before.before.before.misplaced in
     let a = entry.args in
-    says-or
+    says_or
     (Misplaced a.g 0 (get_or a.ins.now a.g 0))
     (Misplaced a.g (a.n - 1) (get_or a.outs.now a.g 0))
     c.misplaced2.result (rw if1.false at misplaced.ensures) c.misplaced2.ensures

@@ -5,7 +5,7 @@ use Prim.Native.Nat.{ℕ, ◌≤◌, ◌<◌, ◌-◌}
 use native.Mathlib.Omega.{arith}
 use borrow.Author.Count.{below_none, below_more}
 use Rattle.network.specs.Misplaced.{Faulty}
-use Rattle.ordering.proofs.Marks.{first-none, first_found}
+use Rattle.ordering.proofs.Marks.{first_none, first_found}
 use Rattle.network.proofs.ends.first_faulty.Statement.{statement}
 use Rattle.network.proofs.ends.first_faulty.Tie as tie
 
@@ -48,7 +48,7 @@ returns-2 c =
     let entry = c.before.before.before.before in
     let loop = c.before.loop in
     let a = entry.args in
-    first-none (Faulty a.n a.ins.now a.outs.now) a.n loop.g (omega arith) loop.invariant.1
+    first_none (Faulty a.n a.ins.now a.outs.now) a.n loop.g (omega arith) loop.invariant.1
 
 pub first-faulty-spec : {M : Type 1} → statement M
 first-faulty-spec = tie.close (tie.spec invariant-loop decreases-loop loop-holds faulty-requires returns add-g loop-less loop-again returns-2)

@@ -6,7 +6,7 @@ use Prim.Native.Nat.{◌+◌, ◌≤◌, ◌-◌}
 use native.Mathlib.Omega.{arith}
 use lib.ListN.{length, get_or, length-set}
 use Rattle.ordering.specs.Chain.{Chained}
-use Rattle.ordering.proofs.Chains.{chained-none, chained_more}
+use Rattle.ordering.proofs.Chains.{chained_none, chained_more}
 use Rattle.ordering.proofs.chain.chain_wires.Statement.{statement}
 use Rattle.ordering.proofs.chain.chain_wires.Tie as tie
 
@@ -17,7 +17,7 @@ abbrev decreases-loop : tie.decreases-loop
 decreases-loop m ends heads₀ links₀ i₀ heads links i = m - i
 
 loop-holds : tie.Need-loop-init invariant-loop decreases-loop
-loop-holds c = (omega arith, refl, refl, chained-none _ _ _ _ c.before.before.before.requires)
+loop-holds c = (omega arith, refl, refl, chained_none _ _ _ _ c.before.before.before.requires)
 
 at-requires : tie.Need-at-requires invariant-loop decreases-loop
 at-requires c κs = search rules
@@ -28,7 +28,7 @@ mul-links c = omega (arith, c.before.before.before.before.before.shared-slice-kn
 slice-read-links : tie.Need-slice-read-links invariant-loop decreases-loop
 slice-read-links c =
     let entry = c.before.before.before.before.before.before.before in
-    omega (arith, entry.requires.to-gates c.before.before.before.loop.i c.before.before.loop-test.true, c.before.at.ensures)
+    omega (arith, entry.requires.to_gates c.before.before.before.loop.i c.before.before.loop-test.true, c.before.at.ensures)
 
 mul-links-2 : tie.Need-overflow-mul-links-2 invariant-loop decreases-loop
 mul-links-2 c = search rules
@@ -48,7 +48,7 @@ mul-heads c = omega (arith, c.before.before.before.before.before.before.shared-s
 slice-write-heads : tie.Need-slice-write-heads invariant-loop decreases-loop
 slice-write-heads c =
     let entry = c.before.before.before.before.before.before.before in
-    omega (arith, entry.requires.to-gates c.before.before.before.loop.i c.before.before.loop-test.true, c.before.at.ensures)
+    omega (arith, entry.requires.to_gates c.before.before.before.loop.i c.before.before.loop-test.true, c.before.at.ensures)
 
 add-i : tie.Need-overflow-add-i invariant-loop decreases-loop
 add-i c = search rules
@@ -61,7 +61,7 @@ loop-again c =
     let entry = c.before.before.before.before.before.before.before in
     let loop = c.before.before.before.loop in
     let g = c.before.at.result in
-    let gate = entry.requires.to-gates loop.i c.before.before.loop-test.true in
+    let gate = entry.requires.to_gates loop.i c.before.before.loop-test.true in
     let e = c.before.at.ensures in
     let room = entry.requires.room in (
       omega arith,

@@ -6,7 +6,7 @@ use Prim.Native.Nat.{ℕ, ◌≤◌, ◌<◌, ◌-◌}
 use native.Mathlib.Omega.{arith}
 use lib.ListN.{length, get_or}
 use Rattle.ordering.specs.Marks.{Marks, Among}
-use Rattle.ordering.proofs.Marks.{marks-none, among_none, among-marked}
+use Rattle.ordering.proofs.Marks.{marks_none, among_none, among_marked}
 use Rattle.ordering.proofs.marking.mark_keys.Statement.{statement}
 use Rattle.ordering.proofs.marking.mark_keys.Tie as tie
 
@@ -19,7 +19,7 @@ decreases-loop m keys marks₀ i₀ marks i = m - i
 loop-holds : tie.Need-loop-init invariant-loop decreases-loop
 loop-holds c =
     let entry = c.before.before in
-    (omega arith, refl, λ n zeros. marks-none (Among entry.args.keys.now 0) n entry.args.marks.now zeros (among_none entry.args.keys.now))
+    (omega arith, refl, λ n zeros. marks_none (Among entry.args.keys.now 0) n entry.args.marks.now zeros (among_none entry.args.keys.now))
 
 at-requires : tie.Need-at-requires invariant-loop decreases-loop
 at-requires c κs = search rules
@@ -42,7 +42,7 @@ loop-again c =
     let entry = c.before.before.before.before.before in
     let i = loop.i in
     let long = entry.requires.1 i c.before.loop-test.true in
-    (omega arith, search rules, λ n zeros. among-marked entry.args.keys.now i n loop.marks c.at.result c.at.ensures (omega arith) (loop.invariant.2 n zeros))
+    (omega arith, search rules, λ n zeros. among_marked entry.args.keys.now i n loop.marks c.at.result c.at.ensures (omega arith) (loop.invariant.2 n zeros))
 
 same_length : tie.Need-same-length invariant-loop decreases-loop
 same_length c = search rules

@@ -1,7 +1,7 @@
 -- The proof of the cycle of calls {copy}. The measure is the number of the node copied: children have smaller numbers.
 -- Assumes nothing.
 use native.Mathlib.Omega.{arith}
-use Rattle.planting.proofs.Steps.{leaf-asked, leaf-done, left-asked, left-done, right-asked, right-done, top-asked, chain-done, beside-done}
+use Rattle.planting.proofs.Steps.{leaf_asked, leaf_done, left_asked, left_done, right_asked, right_done, top_asked, chain_done, beside_done}
 use Prim.Native.Nat.{ℕ, ◌<◌}
 use borrow.Fn.Kinds.{In}
 use borrow.Fn.PlainCycle.{Measures, is, falls, and}
@@ -39,11 +39,11 @@ pub +copy-spec : {M : Type 1} → statement M
     -- copy-element-copy-out-write-leaf
     (λ c. c.before.before.before.requires.1.0.below)
     -- copy-write-leaf-requires
-    (λ c κs. leaf-asked c.before.before.before.before.requires.1.0 c.before.before.before.before.args.c c.before.before.before.before.requires.1.1 c.before.before.if1.true)
+    (λ c κs. leaf_asked c.before.before.before.before.requires.1.0 c.before.before.before.before.args.c c.before.before.before.before.requires.1.1 c.before.before.if1.true)
     -- copy-add-result
-    (λ c. record { fits = omega (arith, (leaf-asked c.before.before.before.before.before.requires.1.0 c.before.before.before.before.before.args.c c.before.before.before.before.before.requires.1.1 c.before.before.before.if1.true).few) })
+    (λ c. record { fits = omega (arith, (leaf_asked c.before.before.before.before.before.requires.1.0 c.before.before.before.before.before.args.c c.before.before.before.before.before.requires.1.1 c.before.before.before.if1.true).few) })
     -- copy-returns
-    (λ c. leaf-done c.before.before.before.before.before.requires.1.0 c.before.before.before.before.before.args.c c.before.before.before.before.before.requires.1.1 c.before.before.before.if1.true c.write-leaf.ensures)
+    (λ c. leaf_done c.before.before.before.before.before.requires.1.0 c.before.before.before.before.before.args.c c.before.before.before.before.before.requires.1.1 c.before.before.before.if1.true c.write-leaf.ensures)
     -- copy-mul-index
     (λ c. omega (arith, c.before.before.requires.1.0.below))
     -- copy-element-copy-out-index
@@ -51,7 +51,7 @@ pub +copy-spec : {M : Type 1} → statement M
     -- copy-index-requires
     (λ c κs. tt)
     -- copy-copy-requires
-    (λ c κs. let n = left-asked c.before.before.before.before.before.requires.1.0 c.before.before.before.before.before.args.c c.before.before.before.before.before.requires.1.1 c.before.before.before.if1.false _ c.before.index.ensures in (omega (arith, n.0, c.before.before.before.before.before.requires.0), (n.1, n.2)))
+    (λ c κs. let n = left_asked c.before.before.before.before.before.requires.1.0 c.before.before.before.before.before.args.c c.before.before.before.before.before.requires.1.1 c.before.before.before.if1.false _ c.before.index.ensures in (omega (arith, n.0, c.before.before.before.before.before.requires.0), (n.1, n.2)))
     -- copy-mul-index-2
     (λ c. omega (arith, c.before.before.before.before.before.before.requires.1.0.below))
     -- copy-element-copy-out-index-2
@@ -59,7 +59,7 @@ pub +copy-spec : {M : Type 1} → statement M
     -- copy-index-requires-2
     (λ c κs. tt)
     -- copy-copy-requires-2
-    (λ c κs. let n = right-asked c.before.before.before.before.before.before.before.before.before.requires.1.0 c.before.before.before.before.before.before.before.before.before.args.c c.before.before.before.before.before.before.before.before.before.requires.1.1 c.before.before.before.before.before.before.before.if1.false (left-done c.before.before.before.before.before.before.before.before.before.requires.1.0 c.before.before.before.before.before.before.before.before.before.args.c c.before.before.before.before.before.before.before.before.before.requires.1.1 c.before.before.before.before.before.before.before.if1.false _ c.before.before.before.before.before.index.ensures c.before.before.before.copy.ensures.0 c.before.before.before.copy.ensures.1) _ c.before.index2.ensures in (omega (arith, n.0, c.before.before.before.before.before.before.before.before.before.requires.0), (n.1, n.2)))
+    (λ c κs. let n = right_asked c.before.before.before.before.before.before.before.before.before.requires.1.0 c.before.before.before.before.before.before.before.before.before.args.c c.before.before.before.before.before.before.before.before.before.requires.1.1 c.before.before.before.before.before.before.before.if1.false (left_done c.before.before.before.before.before.before.before.before.before.requires.1.0 c.before.before.before.before.before.before.before.before.before.args.c c.before.before.before.before.before.before.before.before.before.requires.1.1 c.before.before.before.before.before.before.before.if1.false _ c.before.before.before.before.before.index.ensures c.before.before.before.copy.ensures.0 c.before.before.before.copy.ensures.1) _ c.before.index2.ensures in (omega (arith, n.0, c.before.before.before.before.before.before.before.before.before.requires.0), (n.1, n.2)))
     -- copy-mul-if2
     (λ c. omega (arith, c.before.before.before.before.before.before.before.before.before.before.requires.1.0.below))
     -- copy-element-copy-out-if2
@@ -69,14 +69,14 @@ pub +copy-spec : {M : Type 1} → statement M
     -- copy-element-copy-out-write-parent
     (λ c. c.before.before.before.before.before.before.before.before.before.before.before.before.before.requires.1.0.below)
     -- copy-write-parent-requires
-    (λ c κs. let n = top-asked c.before.before.before.before.before.before.before.before.before.before.before.before.before.before.requires.1.0 c.before.before.before.before.before.before.before.before.before.before.before.before.before.before.args.c c.before.before.before.before.before.before.before.before.before.before.before.before.before.before.requires.1.1 c.before.before.before.before.before.before.before.before.before.before.before.before.if1.false (left-done c.before.before.before.before.before.before.before.before.before.before.before.before.before.before.requires.1.0 c.before.before.before.before.before.before.before.before.before.before.before.before.before.before.args.c c.before.before.before.before.before.before.before.before.before.before.before.before.before.before.requires.1.1 c.before.before.before.before.before.before.before.before.before.before.before.before.if1.false _ c.before.before.before.before.before.before.before.before.before.before.index.ensures c.before.before.before.before.before.before.before.before.copy.ensures.0 c.before.before.before.before.before.before.before.before.copy.ensures.1) (right-done c.before.before.before.before.before.before.before.before.before.before.before.before.before.before.requires.1.0 c.before.before.before.before.before.before.before.before.before.before.before.before.before.before.args.c c.before.before.before.before.before.before.before.before.before.before.before.before.before.before.requires.1.1 c.before.before.before.before.before.before.before.before.before.before.before.before.if1.false (left-done c.before.before.before.before.before.before.before.before.before.before.before.before.before.before.requires.1.0 c.before.before.before.before.before.before.before.before.before.before.before.before.before.before.args.c c.before.before.before.before.before.before.before.before.before.before.before.before.before.before.requires.1.1 c.before.before.before.before.before.before.before.before.before.before.before.before.if1.false _ c.before.before.before.before.before.before.before.before.before.before.index.ensures c.before.before.before.before.before.before.before.before.copy.ensures.0 c.before.before.before.before.before.before.before.before.copy.ensures.1) _ c.before.before.before.before.before.before.index2.ensures c.before.before.before.before.copy2.ensures.0 c.before.before.before.before.copy2.ensures.1) in (n.0, (n.1, n.2)))
+    (λ c κs. let n = top_asked c.before.before.before.before.before.before.before.before.before.before.before.before.before.before.requires.1.0 c.before.before.before.before.before.before.before.before.before.before.before.before.before.before.args.c c.before.before.before.before.before.before.before.before.before.before.before.before.before.before.requires.1.1 c.before.before.before.before.before.before.before.before.before.before.before.before.if1.false (left_done c.before.before.before.before.before.before.before.before.before.before.before.before.before.before.requires.1.0 c.before.before.before.before.before.before.before.before.before.before.before.before.before.before.args.c c.before.before.before.before.before.before.before.before.before.before.before.before.before.before.requires.1.1 c.before.before.before.before.before.before.before.before.before.before.before.before.if1.false _ c.before.before.before.before.before.before.before.before.before.before.index.ensures c.before.before.before.before.before.before.before.before.copy.ensures.0 c.before.before.before.before.before.before.before.before.copy.ensures.1) (right_done c.before.before.before.before.before.before.before.before.before.before.before.before.before.before.requires.1.0 c.before.before.before.before.before.before.before.before.before.before.before.before.before.before.args.c c.before.before.before.before.before.before.before.before.before.before.before.before.before.before.requires.1.1 c.before.before.before.before.before.before.before.before.before.before.before.before.if1.false (left_done c.before.before.before.before.before.before.before.before.before.before.before.before.before.before.requires.1.0 c.before.before.before.before.before.before.before.before.before.before.before.before.before.before.args.c c.before.before.before.before.before.before.before.before.before.before.before.before.before.before.requires.1.1 c.before.before.before.before.before.before.before.before.before.before.before.before.if1.false _ c.before.before.before.before.before.before.before.before.before.before.index.ensures c.before.before.before.before.before.before.before.before.copy.ensures.0 c.before.before.before.before.before.before.before.before.copy.ensures.1) _ c.before.before.before.before.before.before.index2.ensures c.before.before.before.before.copy2.ensures.0 c.before.before.before.before.copy2.ensures.1) in (n.0, (n.1, n.2)))
     -- copy-add-result-2
-    (λ c. record { fits = omega (arith, (top-asked c.before.before.before.before.before.before.before.before.before.before.before.before.before.before.before.requires.1.0 c.before.before.before.before.before.before.before.before.before.before.before.before.before.before.before.args.c c.before.before.before.before.before.before.before.before.before.before.before.before.before.before.before.requires.1.1 c.before.before.before.before.before.before.before.before.before.before.before.before.before.if1.false (left-done c.before.before.before.before.before.before.before.before.before.before.before.before.before.before.before.requires.1.0 c.before.before.before.before.before.before.before.before.before.before.before.before.before.before.before.args.c c.before.before.before.before.before.before.before.before.before.before.before.before.before.before.before.requires.1.1 c.before.before.before.before.before.before.before.before.before.before.before.before.before.if1.false _ c.before.before.before.before.before.before.before.before.before.before.before.index.ensures c.before.before.before.before.before.before.before.before.before.copy.ensures.0 c.before.before.before.before.before.before.before.before.before.copy.ensures.1) (right-done c.before.before.before.before.before.before.before.before.before.before.before.before.before.before.before.requires.1.0 c.before.before.before.before.before.before.before.before.before.before.before.before.before.before.before.args.c c.before.before.before.before.before.before.before.before.before.before.before.before.before.before.before.requires.1.1 c.before.before.before.before.before.before.before.before.before.before.before.before.before.if1.false (left-done c.before.before.before.before.before.before.before.before.before.before.before.before.before.before.before.requires.1.0 c.before.before.before.before.before.before.before.before.before.before.before.before.before.before.before.args.c c.before.before.before.before.before.before.before.before.before.before.before.before.before.before.before.requires.1.1 c.before.before.before.before.before.before.before.before.before.before.before.before.before.if1.false _ c.before.before.before.before.before.before.before.before.before.before.before.index.ensures c.before.before.before.before.before.before.before.before.before.copy.ensures.0 c.before.before.before.before.before.before.before.before.before.copy.ensures.1) _ c.before.before.before.before.before.before.before.index2.ensures c.before.before.before.before.before.copy2.ensures.0 c.before.before.before.before.before.copy2.ensures.1)).0.few) })
+    (λ c. record { fits = omega (arith, (top_asked c.before.before.before.before.before.before.before.before.before.before.before.before.before.before.before.requires.1.0 c.before.before.before.before.before.before.before.before.before.before.before.before.before.before.before.args.c c.before.before.before.before.before.before.before.before.before.before.before.before.before.before.before.requires.1.1 c.before.before.before.before.before.before.before.before.before.before.before.before.before.if1.false (left_done c.before.before.before.before.before.before.before.before.before.before.before.before.before.before.before.requires.1.0 c.before.before.before.before.before.before.before.before.before.before.before.before.before.before.before.args.c c.before.before.before.before.before.before.before.before.before.before.before.before.before.before.before.requires.1.1 c.before.before.before.before.before.before.before.before.before.before.before.before.before.if1.false _ c.before.before.before.before.before.before.before.before.before.before.before.index.ensures c.before.before.before.before.before.before.before.before.before.copy.ensures.0 c.before.before.before.before.before.before.before.before.before.copy.ensures.1) (right_done c.before.before.before.before.before.before.before.before.before.before.before.before.before.before.before.requires.1.0 c.before.before.before.before.before.before.before.before.before.before.before.before.before.before.before.args.c c.before.before.before.before.before.before.before.before.before.before.before.before.before.before.before.requires.1.1 c.before.before.before.before.before.before.before.before.before.before.before.before.before.if1.false (left_done c.before.before.before.before.before.before.before.before.before.before.before.before.before.before.before.requires.1.0 c.before.before.before.before.before.before.before.before.before.before.before.before.before.before.before.args.c c.before.before.before.before.before.before.before.before.before.before.before.before.before.before.before.requires.1.1 c.before.before.before.before.before.before.before.before.before.before.before.before.before.if1.false _ c.before.before.before.before.before.before.before.before.before.before.before.index.ensures c.before.before.before.before.before.before.before.before.before.copy.ensures.0 c.before.before.before.before.before.before.before.before.before.copy.ensures.1) _ c.before.before.before.before.before.before.before.index2.ensures c.before.before.before.before.before.copy2.ensures.0 c.before.before.before.before.before.copy2.ensures.1)).0.few) })
     -- copy-returns-2
-    (λ c. chain-done c.before.before.before.before.before.before.before.before.before.before.before.before.before.before.before.requires.1.0 c.before.before.before.before.before.before.before.before.before.before.before.before.before.before.before.args.c c.before.before.before.before.before.before.before.before.before.before.before.before.before.before.before.requires.1.1 c.before.before.before.before.before.before.before.before.before.before.before.before.before.if1.false (left-done c.before.before.before.before.before.before.before.before.before.before.before.before.before.before.before.requires.1.0 c.before.before.before.before.before.before.before.before.before.before.before.before.before.before.before.args.c c.before.before.before.before.before.before.before.before.before.before.before.before.before.before.before.requires.1.1 c.before.before.before.before.before.before.before.before.before.before.before.before.before.if1.false _ c.before.before.before.before.before.before.before.before.before.before.before.index.ensures c.before.before.before.before.before.before.before.before.before.copy.ensures.0 c.before.before.before.before.before.before.before.before.before.copy.ensures.1) (right-done c.before.before.before.before.before.before.before.before.before.before.before.before.before.before.before.requires.1.0 c.before.before.before.before.before.before.before.before.before.before.before.before.before.before.before.args.c c.before.before.before.before.before.before.before.before.before.before.before.before.before.before.before.requires.1.1 c.before.before.before.before.before.before.before.before.before.before.before.before.before.if1.false (left-done c.before.before.before.before.before.before.before.before.before.before.before.before.before.before.before.requires.1.0 c.before.before.before.before.before.before.before.before.before.before.before.before.before.before.before.args.c c.before.before.before.before.before.before.before.before.before.before.before.before.before.before.before.requires.1.1 c.before.before.before.before.before.before.before.before.before.before.before.before.before.if1.false _ c.before.before.before.before.before.before.before.before.before.before.before.index.ensures c.before.before.before.before.before.before.before.before.before.copy.ensures.0 c.before.before.before.before.before.before.before.before.before.copy.ensures.1) _ c.before.before.before.before.before.before.before.index2.ensures c.before.before.before.before.before.copy2.ensures.0 c.before.before.before.before.before.copy2.ensures.1) c.before.before.before.if2.true c.write-parent.ensures)
+    (λ c. chain_done c.before.before.before.before.before.before.before.before.before.before.before.before.before.before.before.requires.1.0 c.before.before.before.before.before.before.before.before.before.before.before.before.before.before.before.args.c c.before.before.before.before.before.before.before.before.before.before.before.before.before.before.before.requires.1.1 c.before.before.before.before.before.before.before.before.before.before.before.before.before.if1.false (left_done c.before.before.before.before.before.before.before.before.before.before.before.before.before.before.before.requires.1.0 c.before.before.before.before.before.before.before.before.before.before.before.before.before.before.before.args.c c.before.before.before.before.before.before.before.before.before.before.before.before.before.before.before.requires.1.1 c.before.before.before.before.before.before.before.before.before.before.before.before.before.if1.false _ c.before.before.before.before.before.before.before.before.before.before.before.index.ensures c.before.before.before.before.before.before.before.before.before.copy.ensures.0 c.before.before.before.before.before.before.before.before.before.copy.ensures.1) (right_done c.before.before.before.before.before.before.before.before.before.before.before.before.before.before.before.requires.1.0 c.before.before.before.before.before.before.before.before.before.before.before.before.before.before.before.args.c c.before.before.before.before.before.before.before.before.before.before.before.before.before.before.before.requires.1.1 c.before.before.before.before.before.before.before.before.before.before.before.before.before.if1.false (left_done c.before.before.before.before.before.before.before.before.before.before.before.before.before.before.before.requires.1.0 c.before.before.before.before.before.before.before.before.before.before.before.before.before.before.before.args.c c.before.before.before.before.before.before.before.before.before.before.before.before.before.before.before.requires.1.1 c.before.before.before.before.before.before.before.before.before.before.before.before.before.if1.false _ c.before.before.before.before.before.before.before.before.before.before.before.index.ensures c.before.before.before.before.before.before.before.before.before.copy.ensures.0 c.before.before.before.before.before.before.before.before.before.copy.ensures.1) _ c.before.before.before.before.before.before.before.index2.ensures c.before.before.before.before.before.copy2.ensures.0 c.before.before.before.before.before.copy2.ensures.1) c.before.before.before.if2.true c.write-parent.ensures)
     -- copy-write-parent-requires-2
-    (λ c κs. let n = top-asked c.before.before.before.before.before.before.before.before.before.before.before.before.before.requires.1.0 c.before.before.before.before.before.before.before.before.before.before.before.before.before.args.c c.before.before.before.before.before.before.before.before.before.before.before.before.before.requires.1.1 c.before.before.before.before.before.before.before.before.before.before.before.if1.false (left-done c.before.before.before.before.before.before.before.before.before.before.before.before.before.requires.1.0 c.before.before.before.before.before.before.before.before.before.before.before.before.before.args.c c.before.before.before.before.before.before.before.before.before.before.before.before.before.requires.1.1 c.before.before.before.before.before.before.before.before.before.before.before.if1.false _ c.before.before.before.before.before.before.before.before.before.index.ensures c.before.before.before.before.before.before.before.copy.ensures.0 c.before.before.before.before.before.before.before.copy.ensures.1) (right-done c.before.before.before.before.before.before.before.before.before.before.before.before.before.requires.1.0 c.before.before.before.before.before.before.before.before.before.before.before.before.before.args.c c.before.before.before.before.before.before.before.before.before.before.before.before.before.requires.1.1 c.before.before.before.before.before.before.before.before.before.before.before.if1.false (left-done c.before.before.before.before.before.before.before.before.before.before.before.before.before.requires.1.0 c.before.before.before.before.before.before.before.before.before.before.before.before.before.args.c c.before.before.before.before.before.before.before.before.before.before.before.before.before.requires.1.1 c.before.before.before.before.before.before.before.before.before.before.before.if1.false _ c.before.before.before.before.before.before.before.before.before.index.ensures c.before.before.before.before.before.before.before.copy.ensures.0 c.before.before.before.before.before.before.before.copy.ensures.1) _ c.before.before.before.before.before.index2.ensures c.before.before.before.copy2.ensures.0 c.before.before.before.copy2.ensures.1) in (n.0, (n.1, n.2)))
+    (λ c κs. let n = top_asked c.before.before.before.before.before.before.before.before.before.before.before.before.before.requires.1.0 c.before.before.before.before.before.before.before.before.before.before.before.before.before.args.c c.before.before.before.before.before.before.before.before.before.before.before.before.before.requires.1.1 c.before.before.before.before.before.before.before.before.before.before.before.if1.false (left_done c.before.before.before.before.before.before.before.before.before.before.before.before.before.requires.1.0 c.before.before.before.before.before.before.before.before.before.before.before.before.before.args.c c.before.before.before.before.before.before.before.before.before.before.before.before.before.requires.1.1 c.before.before.before.before.before.before.before.before.before.before.before.if1.false _ c.before.before.before.before.before.before.before.before.before.index.ensures c.before.before.before.before.before.before.before.copy.ensures.0 c.before.before.before.before.before.before.before.copy.ensures.1) (right_done c.before.before.before.before.before.before.before.before.before.before.before.before.before.requires.1.0 c.before.before.before.before.before.before.before.before.before.before.before.before.before.args.c c.before.before.before.before.before.before.before.before.before.before.before.before.before.requires.1.1 c.before.before.before.before.before.before.before.before.before.before.before.if1.false (left_done c.before.before.before.before.before.before.before.before.before.before.before.before.before.requires.1.0 c.before.before.before.before.before.before.before.before.before.before.before.before.before.args.c c.before.before.before.before.before.before.before.before.before.before.before.before.before.requires.1.1 c.before.before.before.before.before.before.before.before.before.before.before.if1.false _ c.before.before.before.before.before.before.before.before.before.index.ensures c.before.before.before.before.before.before.before.copy.ensures.0 c.before.before.before.before.before.before.before.copy.ensures.1) _ c.before.before.before.before.before.index2.ensures c.before.before.before.copy2.ensures.0 c.before.before.before.copy2.ensures.1) in (n.0, (n.1, n.2)))
     -- copy-add-result-3
-    (λ c. record { fits = omega (arith, (top-asked c.before.before.before.before.before.before.before.before.before.before.before.before.before.before.requires.1.0 c.before.before.before.before.before.before.before.before.before.before.before.before.before.before.args.c c.before.before.before.before.before.before.before.before.before.before.before.before.before.before.requires.1.1 c.before.before.before.before.before.before.before.before.before.before.before.before.if1.false (left-done c.before.before.before.before.before.before.before.before.before.before.before.before.before.before.requires.1.0 c.before.before.before.before.before.before.before.before.before.before.before.before.before.before.args.c c.before.before.before.before.before.before.before.before.before.before.before.before.before.before.requires.1.1 c.before.before.before.before.before.before.before.before.before.before.before.before.if1.false _ c.before.before.before.before.before.before.before.before.before.before.index.ensures c.before.before.before.before.before.before.before.before.copy.ensures.0 c.before.before.before.before.before.before.before.before.copy.ensures.1) (right-done c.before.before.before.before.before.before.before.before.before.before.before.before.before.before.requires.1.0 c.before.before.before.before.before.before.before.before.before.before.before.before.before.before.args.c c.before.before.before.before.before.before.before.before.before.before.before.before.before.before.requires.1.1 c.before.before.before.before.before.before.before.before.before.before.before.before.if1.false (left-done c.before.before.before.before.before.before.before.before.before.before.before.before.before.before.requires.1.0 c.before.before.before.before.before.before.before.before.before.before.before.before.before.before.args.c c.before.before.before.before.before.before.before.before.before.before.before.before.before.before.requires.1.1 c.before.before.before.before.before.before.before.before.before.before.before.before.if1.false _ c.before.before.before.before.before.before.before.before.before.before.index.ensures c.before.before.before.before.before.before.before.before.copy.ensures.0 c.before.before.before.before.before.before.before.before.copy.ensures.1) _ c.before.before.before.before.before.before.index2.ensures c.before.before.before.before.copy2.ensures.0 c.before.before.before.before.copy2.ensures.1)).0.few) })
+    (λ c. record { fits = omega (arith, (top_asked c.before.before.before.before.before.before.before.before.before.before.before.before.before.before.requires.1.0 c.before.before.before.before.before.before.before.before.before.before.before.before.before.before.args.c c.before.before.before.before.before.before.before.before.before.before.before.before.before.before.requires.1.1 c.before.before.before.before.before.before.before.before.before.before.before.before.if1.false (left_done c.before.before.before.before.before.before.before.before.before.before.before.before.before.before.requires.1.0 c.before.before.before.before.before.before.before.before.before.before.before.before.before.before.args.c c.before.before.before.before.before.before.before.before.before.before.before.before.before.before.requires.1.1 c.before.before.before.before.before.before.before.before.before.before.before.before.if1.false _ c.before.before.before.before.before.before.before.before.before.before.index.ensures c.before.before.before.before.before.before.before.before.copy.ensures.0 c.before.before.before.before.before.before.before.before.copy.ensures.1) (right_done c.before.before.before.before.before.before.before.before.before.before.before.before.before.before.requires.1.0 c.before.before.before.before.before.before.before.before.before.before.before.before.before.before.args.c c.before.before.before.before.before.before.before.before.before.before.before.before.before.before.requires.1.1 c.before.before.before.before.before.before.before.before.before.before.before.before.if1.false (left_done c.before.before.before.before.before.before.before.before.before.before.before.before.before.before.requires.1.0 c.before.before.before.before.before.before.before.before.before.before.before.before.before.before.args.c c.before.before.before.before.before.before.before.before.before.before.before.before.before.before.requires.1.1 c.before.before.before.before.before.before.before.before.before.before.before.before.if1.false _ c.before.before.before.before.before.before.before.before.before.before.index.ensures c.before.before.before.before.before.before.before.before.copy.ensures.0 c.before.before.before.before.before.before.before.before.copy.ensures.1) _ c.before.before.before.before.before.before.index2.ensures c.before.before.before.before.copy2.ensures.0 c.before.before.before.before.copy2.ensures.1)).0.few) })
     -- copy-returns-3
-    (λ c. beside-done c.before.before.before.before.before.before.before.before.before.before.before.before.before.before.requires.1.0 c.before.before.before.before.before.before.before.before.before.before.before.before.before.before.args.c c.before.before.before.before.before.before.before.before.before.before.before.before.before.before.requires.1.1 c.before.before.before.before.before.before.before.before.before.before.before.before.if1.false (left-done c.before.before.before.before.before.before.before.before.before.before.before.before.before.before.requires.1.0 c.before.before.before.before.before.before.before.before.before.before.before.before.before.before.args.c c.before.before.before.before.before.before.before.before.before.before.before.before.before.before.requires.1.1 c.before.before.before.before.before.before.before.before.before.before.before.before.if1.false _ c.before.before.before.before.before.before.before.before.before.before.index.ensures c.before.before.before.before.before.before.before.before.copy.ensures.0 c.before.before.before.before.before.before.before.before.copy.ensures.1) (right-done c.before.before.before.before.before.before.before.before.before.before.before.before.before.before.requires.1.0 c.before.before.before.before.before.before.before.before.before.before.before.before.before.before.args.c c.before.before.before.before.before.before.before.before.before.before.before.before.before.before.requires.1.1 c.before.before.before.before.before.before.before.before.before.before.before.before.if1.false (left-done c.before.before.before.before.before.before.before.before.before.before.before.before.before.before.requires.1.0 c.before.before.before.before.before.before.before.before.before.before.before.before.before.before.args.c c.before.before.before.before.before.before.before.before.before.before.before.before.before.before.requires.1.1 c.before.before.before.before.before.before.before.before.before.before.before.before.if1.false _ c.before.before.before.before.before.before.before.before.before.before.index.ensures c.before.before.before.before.before.before.before.before.copy.ensures.0 c.before.before.before.before.before.before.before.before.copy.ensures.1) _ c.before.before.before.before.before.before.index2.ensures c.before.before.before.before.copy2.ensures.0 c.before.before.before.before.copy2.ensures.1) c.before.before.if2.false c.write-parent2.ensures)
+    (λ c. beside_done c.before.before.before.before.before.before.before.before.before.before.before.before.before.before.requires.1.0 c.before.before.before.before.before.before.before.before.before.before.before.before.before.before.args.c c.before.before.before.before.before.before.before.before.before.before.before.before.before.before.requires.1.1 c.before.before.before.before.before.before.before.before.before.before.before.before.if1.false (left_done c.before.before.before.before.before.before.before.before.before.before.before.before.before.before.requires.1.0 c.before.before.before.before.before.before.before.before.before.before.before.before.before.before.args.c c.before.before.before.before.before.before.before.before.before.before.before.before.before.before.requires.1.1 c.before.before.before.before.before.before.before.before.before.before.before.before.if1.false _ c.before.before.before.before.before.before.before.before.before.before.index.ensures c.before.before.before.before.before.before.before.before.copy.ensures.0 c.before.before.before.before.before.before.before.before.copy.ensures.1) (right_done c.before.before.before.before.before.before.before.before.before.before.before.before.before.before.requires.1.0 c.before.before.before.before.before.before.before.before.before.before.before.before.before.before.args.c c.before.before.before.before.before.before.before.before.before.before.before.before.before.before.requires.1.1 c.before.before.before.before.before.before.before.before.before.before.before.before.if1.false (left_done c.before.before.before.before.before.before.before.before.before.before.before.before.before.before.requires.1.0 c.before.before.before.before.before.before.before.before.before.before.before.before.before.before.args.c c.before.before.before.before.before.before.before.before.before.before.before.before.before.before.requires.1.1 c.before.before.before.before.before.before.before.before.before.before.before.before.if1.false _ c.before.before.before.before.before.before.before.before.before.before.index.ensures c.before.before.before.before.before.before.before.before.copy.ensures.0 c.before.before.before.before.before.before.before.before.copy.ensures.1) _ c.before.before.before.before.before.before.index2.ensures c.before.before.before.before.copy2.ensures.0 c.before.before.before.before.copy2.ensures.1) c.before.before.if2.false c.write-parent2.ensures)

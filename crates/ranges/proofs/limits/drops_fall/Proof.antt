@@ -5,7 +5,7 @@ use mathlib.Core.Path.{sym}
 use Prim.Native.Nat.{ℕ, suc, ◌-◌, ◌<◌, ◌≤◌}
 use native.Mathlib.Omega.{arith}
 use Rattle.ranges.specs.Kinds.{step_of}
-use Rattle.ranges.proofs.Steps.{drops-pass, drops-fail-at, drops-more}
+use Rattle.ranges.proofs.Steps.{drops_pass, drops_fail_at, drops_more}
 use Rattle.ranges.proofs.limits.drops_fall.Statement.{statement}
 use Rattle.ranges.proofs.limits.drops_fall.Tie as tie
 
@@ -44,7 +44,7 @@ returns c =
     let at-loop-test = c.before.before.before in
     let at-loop = at-loop-test.before in
     let start = at-loop.before.before in
-    sym (drops-fail-at _ start.requires at-loop.loop.j at-loop.loop.invariant.0 at-loop-test.loop-test.true (omega arith))
+    sym (drops_fail_at _ start.requires at-loop.loop.j at-loop.loop.invariant.0 at-loop-test.loop-test.true (omega arith))
 
 add-j : tie.Need-overflow-add-j invariant-loop decreases-loop
 add-j c = omega arith
@@ -56,10 +56,10 @@ loop-again : tie.Need-loop-preserved invariant-loop decreases-loop
 loop-again c =
     let at-loop = c.before.before.before.before in
     let start = at-loop.before.before in
-    (omega arith, drops-more start.args.steps.now at-loop.loop.j at-loop.loop.invariant.0 at-loop.loop.invariant.1 (omega arith))
+    (omega arith, drops_more start.args.steps.now at-loop.loop.j at-loop.loop.invariant.0 at-loop.loop.invariant.1 (omega arith))
 
 returns-2 : tie.Need-returns-2 invariant-loop decreases-loop
-returns-2 c = sym (drops-pass _ c.before.before.before.requires (λ i h. c.before.loop.invariant.1 i (omega arith)))
+returns-2 c = sym (drops_pass _ c.before.before.before.requires (λ i h. c.before.loop.invariant.1 i (omega arith)))
 
 pub drops-fall-spec : {M : Type 1} → statement M
 drops-fall-spec = tie.close (tie.spec invariant-loop decreases-loop loop-holds sub-number-at mul-number-at add-number-at number-at-requires mul-number-at-2 add-number-at-2 number-at-requires-2 returns add-j loop-less loop-again returns-2)

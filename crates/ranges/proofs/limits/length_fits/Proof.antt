@@ -23,10 +23,10 @@ returns : tie.Need-returns
 returns c = rw c.enum_told.given.1
 
 returns-2 : tie.Need-returns-2
-returns-2 c = rw c.before.enum-told2.given.1 (c.gate-length-fits.ensures c.before.enum-told2.given.0.0)
+returns-2 c = rw c.before.enum-told2.given.1 (c.gate_length_fits.ensures c.before.enum-told2.given.0.0)
 
 returns-3 : tie.Need-returns-3
-returns-3 c = rw (c.before.before.due.given.1, c.wire-bytes.ensures)
+returns-3 c = rw (c.before.before.due.given.1, c.wire_bytes.ensures)
 
 pub length-fits-spec : {M : Type 1} → statement M
 length-fits-spec = tie.close (tie.spec enum_told enum-told-2 gate-length-fits-requires enum-known-due wire-bytes-requires returns returns-2 returns-3)

@@ -2,7 +2,7 @@
 -- Assumes nothing.
 use borrow.Author.Rules.{rules}
 use native.Mathlib.Omega.{arith}
-use Rattle.ranges.proofs.Pairs.{marks-more}
+use Rattle.ranges.proofs.Pairs.{marks_more}
 use Rattle.ranges.proofs.seen.mark.Statement.{statement}
 use Rattle.ranges.proofs.seen.mark.Tie as tie
 
@@ -16,7 +16,7 @@ same_length : tie.Need-same-length
 same_length c = search rules
 
 returns : tie.Need-returns
-returns c = λ ws d m. rw c.pair_place.ensures (marks-more _ ws _ _ d c.before.before.pre.0 c.before.before.pre.1.0 c.before.before.pre.1.1 m)
+returns c = λ ws d m. rw c.pair_place.ensures (marks_more _ ws _ _ d c.before.before.pre.0 c.before.before.pre.1.0 c.before.before.pre.1.1 m)
 
 pub mark_spec : {M : Type 1} → statement M
 mark_spec = tie.close (tie.spec pair-place-requires slice-write-seen same_length returns)

@@ -1,6 +1,6 @@
 -- `resizing::ticks::fewest_ticks` meets its contract: the curve is found in slices of the call's own, and the ticks are counted off it. Assumes nothing.
 use borrow.Author.Rules.{rules}
-use Rattle.reaching.proofs.CurveLaws.{curve-known}
+use Rattle.reaching.proofs.CurveLaws.{curve_known}
 use Rattle.resizing.proofs.ticks.fewest_ticks.Statement.{statement}
 use Rattle.resizing.proofs.ticks.fewest_ticks.Tie as tie
 
@@ -20,10 +20,10 @@ slice-aggregate-ticks-on-curve-2 : tie.Need-slice-aggregate-ticks-on-curve-2
 slice-aggregate-ticks-on-curve-2 c = search rules
 
 ticks-on-curve-requires : tie.Need-ticks-on-curve-requires
-ticks-on-curve-requires c κs = (c.before.before.before.before.before.before.before.before.args.file.now, curve-known c.before.before.before.before.curve.ensures)
+ticks-on-curve-requires c κs = (c.before.before.before.before.before.before.before.before.args.file.now, curve_known c.before.before.before.before.curve.ensures)
 
 returns : tie.Need-returns
-returns c = c.ticks-on-curve.ensures c.before.before.before.before.before.before.before.before.before.args.file.now (curve-known c.before.before.before.before.before.curve.ensures)
+returns c = c.ticks-on-curve.ensures c.before.before.before.before.before.before.before.before.before.args.file.now (curve_known c.before.before.before.before.before.curve.ensures)
 
 pub fewest-ticks-spec : {M : Type 1} → statement M
 fewest-ticks-spec = tie.close (tie.spec slice-aggregate-curve slice-aggregate-curve-2 curve-requires slice-aggregate-ticks-on-curve slice-aggregate-ticks-on-curve-2 ticks-on-curve-requires returns)

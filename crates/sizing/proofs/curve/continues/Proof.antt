@@ -10,7 +10,7 @@ sub-if2 : tie.Need-overflow-sub-if2
 sub-if2 c = omega (arith, c.if1.false)
 
 mul-if2 : tie.Need-overflow-mul-if2
-mul-if2 c = omega (arith, c.if1.false, c.before.requires, c.before.well-formed.1.1.0)
+mul-if2 c = omega (arith, c.if1.false, c.before.requires, c.before.well_formed.1.1.0)
 
 shared-slice-read-if2 : tie.Need-shared-slice-read-if2
 shared-slice-read-if2 c = omega (arith, c.before.if1.false, c.before.before.requires)

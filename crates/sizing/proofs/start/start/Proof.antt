@@ -6,13 +6,13 @@ use Rattle.sizing.proofs.start.start.Statement.{statement}
 use Rattle.sizing.proofs.start.start.Tie as tie
 
 unslowed-heads-requires : tie.Need-unslowed-heads-requires
-unslowed-heads-requires c κs = (c.before.before.before.before.before.requires.1.0, (omega (arith, c.before.before.before.before.before.requires.0.one_each), λ g l. record { room = c.before.before.before.before.before.requires.0.gate-room g l }))
+unslowed-heads-requires c κs = (c.before.before.before.before.before.requires.1.0, (omega (arith, c.before.before.before.before.before.requires.0.one_each), λ g l. record { room = c.before.before.before.before.before.requires.0.gate_room g l }))
 
 part-lengths-requires : tie.Need-part-lengths-requires
 part-lengths-requires c κs = c.before.before.before.before.before.before.before.before.before.requires.1.1
 
 raise-and-fill-requires : tie.Need-raise-and-fill-requires
-raise-and-fill-requires c κs = (rw c.before.before.before.before.before.before.before.before.before.unslowed-heads.ensures.nodes (raisable c.before.before.before.before.before.before.before.before.before.before.before.before.before.before.before.requires.0 c.before.before.before.before.before.before.before.before.before.unslowed-heads.ensures.unslowed c.before.before.before.before.before.before.before.before.before.unslowed-heads.auto.1.0 (λ g l. c.before.before.before.before.before.before.before.before.before.unslowed-heads.ensures.room g (c.before.before.before.before.before.before.before.before.before.before.before.before.before.before.before.requires.0.gate-room g l))), (c.before.before.before.before.before.before.before.before.before.before.before.before.before.before.before.requires.1.0, omega (arith, c.before.before.before.before.before.before.before.before.before.before.before.before.before.before.before.requires.1.1.lengths-long, c.before.before.before.before.before.part-lengths.auto.1.1.0)))
+raise-and-fill-requires c κs = (rw c.before.before.before.before.before.before.before.before.before.unslowed-heads.ensures.nodes (raisable c.before.before.before.before.before.before.before.before.before.before.before.before.before.before.before.requires.0 c.before.before.before.before.before.before.before.before.before.unslowed-heads.ensures.unslowed c.before.before.before.before.before.before.before.before.before.unslowed-heads.auto.1.0 (λ g l. c.before.before.before.before.before.before.before.before.before.unslowed-heads.ensures.room g (c.before.before.before.before.before.before.before.before.before.before.before.before.before.before.before.requires.0.gate_room g l))), (c.before.before.before.before.before.before.before.before.before.before.before.before.before.before.before.requires.1.0, omega (arith, c.before.before.before.before.before.before.before.before.before.before.before.before.before.before.before.requires.1.1.lengths_long, c.before.before.before.before.before.part-lengths.auto.1.1.0)))
 
 same_length : tie.Need-same-length
 same_length c = c.before.before.before.before.before.before.before.before.part-lengths.auto.1.1.0

@@ -2,7 +2,7 @@
 use borrow.Author.Rules.{rules}
 use mathlib.Core.Path.{sym, ◌∙◌}
 use native.Mathlib.Omega.{arith}
-use Rattle.sizing.proofs.Ticking.{run_none, run-some}
+use Rattle.sizing.proofs.Ticking.{run_none, run_some}
 use Rattle.sizing.proofs.ticks.next_run.Statement.{statement}
 use Rattle.sizing.proofs.ticks.next_run.Tie as tie
 
@@ -21,7 +21,7 @@ cast-result c = omega (arith, c.within.ensures)
 returns-2 : tie.Need-returns-2
 returns-2 c =
     let b = c.before in
-    run-some _ _ _ _ (λ z. b.if1.false (b.before.gain-in.ensures ∙ z)) c.within.ensures
+    run_some _ _ _ _ (λ z. b.if1.false (b.before.gain-in.ensures ∙ z)) c.within.ensures
 
 pub next-run-spec : {M : Type 1} → statement M
 next-run-spec = tie.close (tie.spec gain-in-requires returns within-requires cast-result returns-2)

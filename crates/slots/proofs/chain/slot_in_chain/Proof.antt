@@ -1,7 +1,7 @@
 -- `slots::chain::slot_in_chain` meets its contract: a walk along the chain of the slots that leave a. The next slot's number falls. Assumes nothing.
 use Prim.Native.Nat.{◌-◌}
 use native.Mathlib.Omega.{arith}
-use Rattle.ordering.proofs.Walking.{Walking, walking-starts, walking_on, walking-shortens}
+use Rattle.ordering.proofs.Walking.{Walking, walking_starts, walking_on, walking_shortens}
 use Rattle.slots.specs.Sought.{Leads}
 use Rattle.slots.proofs.ChainLaws.{found_here, none_found}
 use Rattle.slots.proofs.chain.slot_in_chain.Statement.{statement}
@@ -17,7 +17,7 @@ at-requires : tie.Need-at-requires invariant-loop decreases-loop
 at-requires c κs = c.before.before.before.before.before.requires.1.1.0
 
 loop-holds : tie.Need-loop-init invariant-loop decreases-loop
-loop-holds c = walking-starts _ _ _ _ _ _ c.before.before.before.before.before.before.requires.1.0 _ c.at.ensures
+loop-holds c = walking_starts _ _ _ _ _ _ c.before.before.before.before.before.before.requires.1.0 _ c.at.ensures
 
 sub-i : tie.Need-overflow-sub-i invariant-loop decreases-loop
 sub-i c = omega (arith, c.loop-test.true)
@@ -38,7 +38,7 @@ at-requires-2 c κs = omega (arith, c.before.before.loop-test.true, c.before.bef
 
 loop-less : tie.Need-loop-smaller invariant-loop decreases-loop
 loop-less c =
-    walking-shortens _ _ _ _ _ _ c.before.before.before.before.before.before.before.before.before.before.before.requires.1.0 _ _ _ c.before.before.before.before.loop.invariant (omega (arith, c.before.before.before.loop-test.true)) c.at2.ensures
+    walking_shortens _ _ _ _ _ _ c.before.before.before.before.before.before.before.before.before.before.before.requires.1.0 _ _ _ c.before.before.before.before.loop.invariant (omega (arith, c.before.before.before.loop-test.true)) c.at2.ensures
 
 loop-again : tie.Need-loop-preserved invariant-loop decreases-loop
 loop-again c =

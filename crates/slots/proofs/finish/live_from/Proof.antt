@@ -2,7 +2,7 @@
 use borrow.Author.Rules.{rules}
 use Prim.Native.Nat.{◌-◌, ◌≤◌}
 use native.Mathlib.Omega.{arith}
-use Rattle.slots.proofs.FinishLaws.{NoneFrom, none-from-more}
+use Rattle.slots.proofs.FinishLaws.{NoneFrom, none_from_more}
 use Rattle.slots.proofs.finish.live_from.Statement.{statement}
 use Rattle.slots.proofs.finish.live_from.Tie as tie
 
@@ -31,7 +31,7 @@ loop-less : tie.Need-loop-smaller invariant-loop decreases-loop
 loop-less c = search rules
 
 loop-again : tie.Need-loop-preserved invariant-loop decreases-loop
-loop-again c = (omega (arith, c.before.before.before.loop.invariant), omega (arith, c.before.before.loop-test.true), none-from-more c.before.before.before.before.args.live.now _ _ c.before.before.before.loop.invariant.2 c.if1.false)
+loop-again c = (omega (arith, c.before.before.before.loop.invariant), omega (arith, c.before.before.loop-test.true), none_from_more c.before.before.before.before.args.live.now _ _ c.before.before.before.loop.invariant.2 c.if1.false)
 
 returns-2 : tie.Need-returns-2 invariant-loop decreases-loop
 returns-2 c = record { later = omega (arith, c.before.loop.invariant); within = omega arith; none_between = λ q l h. c.before.loop.invariant.2 q l (omega (arith, c.loop-test.false)); holds = λ l. absurd (omega arith) }

@@ -3,9 +3,9 @@ use borrow.Author.Rules.{rules}
 use mathlib.Core.Path.{subst}
 use Prim.Native.Nat.{◌-◌, ◌≤◌}
 use native.Mathlib.Omega.{arith}
-use Rattle.lists.proofs.Search.{least-of-none}
+use Rattle.lists.proofs.Search.{least_of_none}
 use Rattle.slots.specs.Sought.{LowestLed}
-use Rattle.slots.proofs.FinishLaws.{led-more}
+use Rattle.slots.proofs.FinishLaws.{led_more}
 use Rattle.slots.proofs.finish.lowest_left.Statement.{statement}
 use Rattle.slots.proofs.finish.lowest_left.Tie as tie
 
@@ -16,7 +16,7 @@ abbrev decreases-loop : tie.decreases-loop
 decreases-loop live to k last g₀ i₀ g i = k - i
 
 loop-holds : tie.Need-loop-init invariant-loop decreases-loop
-loop-holds c = (search rules, least-of-none _)
+loop-holds c = (search rules, least_of_none _)
 
 lower-requires : tie.Need-lower-requires invariant-loop decreases-loop
 lower-requires c κs = search rules
@@ -28,7 +28,7 @@ loop-less : tie.Need-loop-smaller invariant-loop decreases-loop
 loop-less c = search rules
 
 loop-again : tie.Need-loop-preserved invariant-loop decreases-loop
-loop-again c = (omega arith, led-more c.before.before.before.before.before.args.live.now c.before.before.before.before.before.args.to.now _ _ _ _ c.before.before.loop.invariant.1 c.lower.ensures)
+loop-again c = (omega arith, led_more c.before.before.before.before.before.args.live.now c.before.before.before.before.before.args.to.now _ _ _ _ c.before.before.loop.invariant.1 c.lower.ensures)
 
 returns : tie.Need-returns invariant-loop decreases-loop
 returns c = subst (λ n. LowestLed c.before.before.before.before.args.live.now c.before.before.before.before.args.to.now n c.before.before.before.before.args.last c.before.loop.g) (omega (arith, c.before.loop.invariant, c.loop-test.false)) c.before.loop.invariant.1

@@ -4,13 +4,13 @@ use Prim.Native.Nat.{ℕ, ◌≤◌, ◌*◌, ◌-◌}
 use native.Mathlib.Omega.{arith}
 use lib.ListN.{get_or}
 use Rattle.lists.specs.Sum.{sum}
-use Rattle.model.specs.Limits.{max-steps}
+use Rattle.model.specs.Limits.{max_steps}
 use Rattle.gains.proofs.Sums.{sum_more}
 use Rattle.spending.proofs.tree.step_count.Statement.{statement}
 use Rattle.spending.proofs.tree.step_count.Tie as tie
 
 abbrev invariant-loop : tie.invariant-loop
-invariant-loop n counts steps₀ g₀ steps g = (g ≤ n) × (steps ≡ sum g (λ (j : ℕ). get_or counts j 0)) × (steps ≤ g * max-steps)
+invariant-loop n counts steps₀ g₀ steps g = (g ≤ n) × (steps ≡ sum g (λ (j : ℕ). get_or counts j 0)) × (steps ≤ g * max_steps)
 
 abbrev decreases-loop : tie.decreases-loop
 decreases-loop n counts steps₀ g₀ steps g = n - g

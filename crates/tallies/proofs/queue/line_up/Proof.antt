@@ -5,7 +5,7 @@ use Prim.Native.Nat.{◌-◌, ◌≤◌}
 use native.Mathlib.Omega.{arith}
 use lib.ListN.{length}
 use Rattle.tallies.specs.Queue.{LinedUp}
-use Rattle.tallies.proofs.QueueLaws.{lined-up-more}
+use Rattle.tallies.proofs.QueueLaws.{lined_up_more}
 use Rattle.tallies.proofs.queue.line_up.Statement.{statement}
 use Rattle.tallies.proofs.queue.line_up.Tie as tie
 
@@ -28,7 +28,7 @@ loop-less : tie.Need-loop-smaller invariant-loop decreases-loop
 loop-less c = search rules
 
 loop-again : tie.Need-loop-preserved invariant-loop decreases-loop
-loop-again c = (search rules, search rules, search rules, rw (c.before.before.before.before.put.ensures.0, c.before.before.before.before.put.ensures.1) (lined-up-more c.before.before.before.before.before.before.before.before.loop.queue c.before.before.before.before.before.before.before.before.loop.places c.before.before.before.before.before.before.before.before.loop.g (search rules) (search rules) c.before.before.before.before.before.before.before.before.loop.invariant.3))
+loop-again c = (search rules, search rules, search rules, rw (c.before.before.before.before.put.ensures.0, c.before.before.before.before.put.ensures.1) (lined_up_more c.before.before.before.before.before.before.before.before.loop.queue c.before.before.before.before.before.before.before.before.loop.places c.before.before.before.before.before.before.before.before.loop.g (search rules) (search rules) c.before.before.before.before.before.before.before.before.loop.invariant.3))
 
 same_length : tie.Need-same-length invariant-loop decreases-loop
 same_length c = search rules

@@ -1,6 +1,6 @@
 -- `tallies::queue::waits` meets its contract. Assumes nothing.
 use borrow.Author.Rules.{rules}
-use Rattle.tallies.proofs.QueueLaws.{says-waits}
+use Rattle.tallies.proofs.QueueLaws.{says_waits}
 use Rattle.tallies.proofs.queue.waits.Statement.{statement}
 use Rattle.tallies.proofs.queue.waits.Tie as tie
 
@@ -20,7 +20,7 @@ can-go-requires : tie.Need-can-go-requires
 can-go-requires c κs = search rules
 
 returns-2 : tie.Need-returns-2
-returns-2 c = says-waits _ _ _ _ _ _ _ c.can-go.result c.before.if1.false c.can-go.ensures
+returns-2 c = says_waits _ _ _ _ _ _ _ c.can-go.result c.before.if1.false c.can-go.ensures
 
 pub waits-spec : {M : Type 1} → statement M
 waits-spec = tie.close (tie.spec mul-if1 shared-slice-read-if1 cast-if1 returns can-go-requires returns-2)

@@ -46,7 +46,7 @@ returns-6 : tie.Need-returns-6
 returns-6 c = search rules
 
 returns-7 : tie.Need-returns-7
-returns-7 c = record { not_first = c.before.before.before.before.before.before.before.before.before.if1.false; not_last = c.before.before.before.before.before.before.before.before.if2.false; one_in = record { some = c.before.before.before.before.before.before.if3.false; no-two = c.before.before.before.before.if4.false }; one_out = record { some = c.before.before.if5.false; no-two = c.if6.false } }
+returns-7 c = record { not_first = c.before.before.before.before.before.before.before.before.before.if1.false; not_last = c.before.before.before.before.before.before.before.before.if2.false; one_in = record { some = c.before.before.before.before.before.before.if3.false; no_two = c.before.before.before.before.if4.false }; one_out = record { some = c.before.before.if5.false; no_two = c.if6.false } }
 
 pub can-go-spec : {M : Type 1} → statement M
 can-go-spec = tie.close (tie.spec returns returns-2 mul-if3 shared-slice-read-if3 returns-3 mul-if4 shared-slice-read-if4 returns-4 mul-if5 shared-slice-read-if5 returns-5 mul-if6 shared-slice-read-if6 returns-6 returns-7)

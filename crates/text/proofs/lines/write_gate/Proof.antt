@@ -2,7 +2,7 @@
 -- Assumes nothing.
 use borrow.Author.Rules.{rules}
 use native.Mathlib.Omega.{arith}
-use Rattle.text.proofs.Printed.{gate-written}
+use Rattle.text.proofs.Printed.{gate_written}
 use Rattle.text.proofs.lines.write_gate.Statement.{statement}
 use Rattle.text.proofs.lines.write_gate.Tie as tie
 
@@ -27,7 +27,7 @@ returns c = let args = c.before.before.before.before.before.before.before.before
     let delay = c.before.before.before.before.before.before.before.before.before.before.write-number2.ensures.1 in
     let increase = c.before.before.before.before.before.before.write-number3.ensures.1 in
     let slack = c.before.before.write-number4.ensures.1 in
-    (omega arith, gate-written args.g args.delay args.increase args.slack args.at number delay increase slack)
+    (omega arith, gate_written args.g args.delay args.increase args.slack args.at number delay increase slack)
 
 pub write-gate-spec : {M : Type 1} → statement M
 write-gate-spec = tie.close (tie.spec write-number-requires write-number-requires-2 write-number-requires-3 write-number-requires-4 same_length returns)

@@ -6,26 +6,26 @@ use Prim.Native.Nat.{◌+◌, ◌*◌, ◌-◌, ◌≤◌}
 use native.Mathlib.Omega.{arith}
 use lib.ListN.{length, get_or}
 use lib.IntN.{pos}
-use Rattle.model.specs.Printout.{gate-texts}
-use Rattle.text.specs.Written.{Written, gate-room}
-use Rattle.text.specs.Numbers.{listed-line}
+use Rattle.model.specs.Printout.{gate_texts}
+use Rattle.text.specs.Written.{Written, gate_room}
+use Rattle.text.specs.Numbers.{listed_line}
 use Rattle.text.proofs.Writing.{nothing}
-use Rattle.text.proofs.Signless.{natural-read, read_same}
-use Rattle.text.proofs.Printed.{gates-written}
+use Rattle.text.proofs.Signless.{natural_read, read_same}
+use Rattle.text.proofs.Printed.{gates_written}
 use Rattle.text.proofs.lines.write_gates.Statement.{statement}
 use Rattle.text.proofs.lines.write_gates.Tie as tie
 
 abbrev invariant-loop : tie.invariant-loop
 invariant-loop n delays increases slacks out₀ at next₀ g₀ out next g = (g ≤ n)
     × (length out ≡ length out₀)
-    × (next ≤ at + gate-room * g)
-    × Written (gate-texts (listed-line delays increases slacks) g) at out₀ out next
+    × (next ≤ at + gate_room * g)
+    × Written (gate_texts (listed_line delays increases slacks) g) at out₀ out next
 
 abbrev decreases-loop : tie.decreases-loop
 decreases-loop n delays increases slacks out₀ at next₀ g₀ out next g = n - g
 
 loop-holds : tie.Need-loop-init invariant-loop decreases-loop
-unfolding gate-texts
+unfolding gate_texts
 loop-holds c = let start = c.before.before.before in
     (omega arith, refl, omega arith, nothing start.args.at start.args.out.now (omega arith))
 
@@ -56,7 +56,7 @@ shared-slice-copy-out-natural c = search rules
 natural-requires : tie.Need-natural-requires invariant-loop decreases-loop
 natural-requires c κs = let start = c.before.before.before.before.before.before.before.before.before.before in
     let g = c.before.before.before.before.before.before.loop.g in
-    natural-read (get_or start.args.slacks.now g (pos 0)) (record { sfits = c.natural-arg.given }) (start.requires.1.natural g c.before.before.before.before.before.loop-test.true)
+    natural_read (get_or start.args.slacks.now g (pos 0)) (record { sfits = c.natural-arg.given }) (start.requires.1.natural g c.before.before.before.before.before.loop-test.true)
 
 write-gate-requires : tie.Need-write-gate-requires invariant-loop decreases-loop
 write-gate-requires c κs = search rules
@@ -77,7 +77,7 @@ loop-again c = let start = c.before.before.before.before.before.before.before.be
       omega arith,
       line.auto.1.1.1.1.0 ∙ loop.invariant.1,
       omega (arith, line.ensures.0),
-      gates-written start.args.delays.now start.args.increases.now start.args.slacks.now loop.g
+      gates_written start.args.delays.now start.args.increases.now start.args.slacks.now loop.g
           c.before.before.before.before.before.before.before.before.wide.ensures c.before.before.before.before.before.before.wide2.ensures no_sign
           loop.invariant.3 line.ensures.1,
     )

@@ -2,7 +2,7 @@
 -- Assumes nothing.
 use borrow.Author.Rules.{rules}
 use native.Mathlib.Omega.{arith}
-use Rattle.text.proofs.Printed.{head-written}
+use Rattle.text.proofs.Printed.{head_written}
 use Rattle.text.proofs.lines.write_head.Statement.{statement}
 use Rattle.text.proofs.lines.write_head.Tie as tie
 
@@ -53,7 +53,7 @@ returns c = let head = c.before.before.before.before.before.before.before.before
     let spared = c.before.before.before.before.before.before.before.write-named4.ensures in
     let saved = c.before.before.write-named5.ensures in (
       omega (arith, gates.0, wires.0, started.0, spared.0, saved.0),
-      head-written head.gates head.wires head.start head.spare head.saving gates.1 wires.1 started.1 spared.1 saved.1,
+      head_written head.gates head.wires head.start head.spare head.saving gates.1 wires.1 started.1 spared.1 saved.1,
     )
 
 pub write-head-spec : {M : Type 1} → statement M

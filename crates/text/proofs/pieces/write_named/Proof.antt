@@ -2,7 +2,7 @@
 -- Assumes nothing.
 use borrow.Author.Rules.{rules}
 use native.Mathlib.Omega.{arith}
-use Rattle.text.proofs.Printed.{number_fits, named-written}
+use Rattle.text.proofs.Printed.{number_fits, named_written}
 use Rattle.text.proofs.pieces.write_named.Statement.{statement}
 use Rattle.text.proofs.pieces.write_named.Tie as tie
 
@@ -23,7 +23,7 @@ returns c = let start = c.before.before.before.before.before.before.before.befor
     let number = c.before.before.write-number.ensures in
     let fits = number_fits start.args.word.now start.args.at start.args.out.now start.requires.0 start.requires.1 word.0 word.1 in (
       omega (arith, number.0),
-      named-written start.args.word.now start.args.at start.args.out.now start.requires.0 start.requires.1 word.0 word.1
+      named_written start.args.word.now start.args.at start.args.out.now start.requires.0 start.requires.1 word.0 word.1
           start.args.n start.args.end number.1,
     )
 

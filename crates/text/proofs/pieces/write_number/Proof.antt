@@ -2,7 +2,7 @@
 -- Assumes nothing.
 use borrow.Author.Rules.{rules}
 use native.Mathlib.Omega.{arith}
-use Rattle.text.proofs.Printed.{end_fits, number-written}
+use Rattle.text.proofs.Printed.{end_fits, number_written}
 use Rattle.text.proofs.pieces.write_number.Statement.{statement}
 use Rattle.text.proofs.pieces.write_number.Tie as tie
 
@@ -26,7 +26,7 @@ returns : tie.Need-returns
 returns c = let start = c.before.before.before.before.before in
     let digits = c.before.before.write-digits.ensures in (
       (end_fits start.args.n start.args.at start.args.out.now start.ranges.n.fits start.requires digits.0 digits.1).0,
-      number-written start.args.n start.args.at start.args.out.now start.ranges.n.fits start.requires digits.0 digits.1 start.args.end,
+      number_written start.args.n start.args.at start.args.out.now start.ranges.n.fits start.requires digits.0 digits.1 start.args.end,
     )
 
 pub write-number-spec : {M : Type 1} → statement M

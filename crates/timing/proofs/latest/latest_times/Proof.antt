@@ -4,7 +4,7 @@ use mathlib.Core.Path.{◌≡◌}
 use Prim.Native.Nat.{◌-◌}
 use native.Mathlib.Omega.{arith}
 use Rattle.timing.specs.Times.{Ready}
-use Rattle.timing.proofs.Found.{Found, found_none, found-walkable, found-more, found_all, found-fits}
+use Rattle.timing.proofs.Found.{Found, found_none, found_walkable, found_more, found_all, found_fits}
 use Rattle.timing.proofs.latest.latest_times.Statement.{statement}
 use Rattle.timing.proofs.latest.latest_times.Tie as tie
 
@@ -21,28 +21,28 @@ mul-index : tie.Need-overflow-mul-index invariant-loop decreases-loop
 mul-index c = search rules
 
 shared-slice-read-index : tie.Need-shared-slice-read-index invariant-loop decreases-loop
-shared-slice-read-index c = omega (arith, c.before.before.before.before.before.before.before.before.before.before.before.requires.order-long)
+shared-slice-read-index c = omega (arith, c.before.before.before.before.before.before.before.before.before.before.before.requires.order_long)
 
 index-requires : tie.Need-index-requires invariant-loop decreases-loop
 index-requires c κs = search rules
 
 latest-into-requires : tie.Need-latest-into-requires invariant-loop decreases-loop
-latest-into-requires c κs = (omega (arith, c.before.before.before.before.before.before.before.before.before.before.before.before.before.requires.ordered.names-gate c.before.before.before.before.loop.k c.before.before.before.loop-test.true, c.before.index.ensures), omega (arith, c.before.before.before.before.before.before.before.before.before.before.before.before.before.requires.base-small), found-walkable _ _ _ _ _ _ _ _ _ _ _ c.before.before.before.before.before.before.before.before.before.before.before.before.before.requires _ _ (c.before.before.before.before.loop.invariant c.before.before.before.before.before.before.before.before.before.before.before.before.before.requires))
+latest-into-requires c κs = (omega (arith, c.before.before.before.before.before.before.before.before.before.before.before.before.before.requires.ordered.names_gate c.before.before.before.before.loop.k c.before.before.before.loop-test.true, c.before.index.ensures), omega (arith, c.before.before.before.before.before.before.before.before.before.before.before.before.before.requires.base_small), found_walkable _ _ _ _ _ _ _ _ _ _ _ c.before.before.before.before.before.before.before.before.before.before.before.before.before.requires _ _ (c.before.before.before.before.loop.invariant c.before.before.before.before.before.before.before.before.before.before.before.before.before.requires))
 
 mul-times : tie.Need-overflow-mul-times invariant-loop decreases-loop
-mul-times c = omega (arith, c.before.before.before.before.before.before.before.before.before.before.before.before.before.before.requires.ordered.names-gate c.before.before.before.before.before.loop.k c.before.before.before.before.loop-test.true, c.before.before.index.ensures, c.before.before.before.before.before.before.before.before.before.before.before.before.before.before.requires.walkable.lent.gates)
+mul-times c = omega (arith, c.before.before.before.before.before.before.before.before.before.before.before.before.before.before.requires.ordered.names_gate c.before.before.before.before.before.loop.k c.before.before.before.before.loop-test.true, c.before.before.index.ensures, c.before.before.before.before.before.before.before.before.before.before.before.before.before.before.requires.walkable.lent.gates)
 
 shared-slice-read-times : tie.Need-shared-slice-read-times invariant-loop decreases-loop
-shared-slice-read-times c = omega (arith, c.before.before.before.before.before.before.before.before.before.before.before.before.before.before.before.requires.ordered.names-gate c.before.before.before.before.before.before.loop.k c.before.before.before.before.before.loop-test.true, c.before.before.before.index.ensures, c.before.before.before.before.before.before.before.before.before.before.before.before.before.before.before.requires.delays.gates-long)
+shared-slice-read-times c = omega (arith, c.before.before.before.before.before.before.before.before.before.before.before.before.before.before.before.requires.ordered.names_gate c.before.before.before.before.before.before.loop.k c.before.before.before.before.before.loop-test.true, c.before.before.before.index.ensures, c.before.before.before.before.before.before.before.before.before.before.before.before.before.before.before.requires.delays.gates_long)
 
 add_times : tie.Need-overflow-add-times invariant-loop decreases-loop
-add_times c = omega (arith, found-fits _ _ _ _ _ _ _ _ _ _ _ c.before.before.before.before.before.before.before.before.before.before.before.before.before.before.before.requires _ _ _ _ (c.before.before.before.before.before.before.loop.invariant c.before.before.before.before.before.before.before.before.before.before.before.before.before.before.before.requires) c.before.before.before.before.before.loop-test.true c.before.before.before.index.ensures c.before.latest-into.ensures)
+add_times c = omega (arith, found_fits _ _ _ _ _ _ _ _ _ _ _ c.before.before.before.before.before.before.before.before.before.before.before.before.before.before.before.requires _ _ _ _ (c.before.before.before.before.before.before.loop.invariant c.before.before.before.before.before.before.before.before.before.before.before.before.before.before.before.requires) c.before.before.before.before.before.loop-test.true c.before.before.before.index.ensures c.before.latest-into.ensures)
 
 mul-times-2 : tie.Need-overflow-mul-times-2 invariant-loop decreases-loop
-mul-times-2 c = omega (arith, c.before.before.before.before.before.before.before.before.before.before.before.before.before.before.before.requires.ordered.names-gate c.before.before.before.before.before.before.loop.k c.before.before.before.before.before.loop-test.true, c.before.before.before.index.ensures, c.before.before.before.before.before.before.before.before.before.before.before.before.before.before.before.requires.walkable.lent.gates)
+mul-times-2 c = omega (arith, c.before.before.before.before.before.before.before.before.before.before.before.before.before.before.before.requires.ordered.names_gate c.before.before.before.before.before.before.loop.k c.before.before.before.before.before.loop-test.true, c.before.before.before.index.ensures, c.before.before.before.before.before.before.before.before.before.before.before.before.before.before.before.requires.walkable.lent.gates)
 
 slice-write-times : tie.Need-slice-write-times invariant-loop decreases-loop
-slice-write-times c = omega (arith, c.before.before.before.before.before.before.before.before.before.before.before.before.before.before.before.requires.ordered.names-gate c.before.before.before.before.before.before.loop.k c.before.before.before.before.before.loop-test.true, c.before.before.before.index.ensures, (found-walkable _ _ _ _ _ _ _ _ _ _ _ c.before.before.before.before.before.before.before.before.before.before.before.before.before.before.before.requires _ _ (c.before.before.before.before.before.before.loop.invariant c.before.before.before.before.before.before.before.before.before.before.before.before.before.before.before.requires)).times_long)
+slice-write-times c = omega (arith, c.before.before.before.before.before.before.before.before.before.before.before.before.before.before.before.requires.ordered.names_gate c.before.before.before.before.before.before.loop.k c.before.before.before.before.before.loop-test.true, c.before.before.before.index.ensures, (found_walkable _ _ _ _ _ _ _ _ _ _ _ c.before.before.before.before.before.before.before.before.before.before.before.before.before.before.before.requires _ _ (c.before.before.before.before.before.before.loop.invariant c.before.before.before.before.before.before.before.before.before.before.before.before.before.before.before.requires)).times_long)
 
 add-k : tie.Need-overflow-add-k invariant-loop decreases-loop
 add-k c = omega (arith, c.before.before.before.before.before.before.before.before.before.before.before.before.before.before.before.requires.walkable.lent.gates)
@@ -51,7 +51,7 @@ loop-less : tie.Need-loop-smaller invariant-loop decreases-loop
 loop-less c = omega arith
 
 loop-again : tie.Need-loop-preserved invariant-loop decreases-loop
-loop-again c = λ r. found-more _ _ _ _ _ _ _ _ _ _ _ r _ _ _ _ (c.before.before.before.before.before.before.loop.invariant r) c.before.before.before.before.before.loop-test.true c.before.before.before.index.ensures c.before.latest-into.ensures
+loop-again c = λ r. found_more _ _ _ _ _ _ _ _ _ _ _ r _ _ _ _ (c.before.before.before.before.before.before.loop.invariant r) c.before.before.before.before.before.loop-test.true c.before.before.before.index.ensures c.before.latest-into.ensures
 
 same_length : tie.Need-same-length invariant-loop decreases-loop
 same_length c = (c.before.loop.invariant c.before.before.before.before.before.before.before.before.before.before.requires).same_length

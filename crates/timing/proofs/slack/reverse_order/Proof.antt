@@ -4,7 +4,7 @@ use mathlib.Core.Path.{◌≡◌, refl, ◌∙◌}
 use Prim.Native.Nat.{ℕ, suc, ◌≤◌, ◌<◌, ◌-◌}
 use native.Mathlib.Omega.{arith}
 use lib.ListN.{length, get_or, length-set}
-use Rattle.timing.proofs.Reversal.{reversed-more}
+use Rattle.timing.proofs.Reversal.{reversed_more}
 use Rattle.timing.proofs.slack.reverse_order.Statement.{statement}
 use Rattle.timing.proofs.slack.reverse_order.Tie as tie
 
@@ -42,7 +42,7 @@ loop-less : tie.Need-loop-smaller invariant-loop decreases-loop
 loop-less c = search rules
 
 loop-again : tie.Need-loop-preserved invariant-loop decreases-loop
-loop-again c = (omega arith, length-set c.before.before.loop.back c.before.before.loop.k _ ∙ c.before.before.loop.invariant.1, reversed-more c.before.before.before.args.n c.before.before.loop.k c.before.before.before.args.order.now c.before.before.loop.back c.before.loop-test.true (omega arith) c.before.before.loop.invariant.2)
+loop-again c = (omega arith, length-set c.before.before.loop.back c.before.before.loop.k _ ∙ c.before.before.loop.invariant.1, reversed_more c.before.before.before.args.n c.before.before.loop.k c.before.before.before.args.order.now c.before.before.loop.back c.before.loop-test.true (omega arith) c.before.before.loop.invariant.2)
 
 same_length : tie.Need-same-length invariant-loop decreases-loop
 same_length c = c.before.loop.invariant.1

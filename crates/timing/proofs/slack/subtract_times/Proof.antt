@@ -7,7 +7,7 @@ use lib.ListN.{length, length-set}
 use Rattle.lists.specs.Over.{build, over}
 use Rattle.lists.proofs.Over.{over_none}
 use Rattle.timing.specs.Slacks.{left_at}
-use Rattle.timing.proofs.Subtraction.{through-small, slack-written}
+use Rattle.timing.proofs.Subtraction.{through_small, slack_written}
 use Rattle.timing.proofs.slack.subtract_times.Statement.{statement}
 use Rattle.timing.proofs.slack.subtract_times.Tie as tie
 
@@ -40,13 +40,13 @@ shared-slice-read-left-of-3 : tie.Need-shared-slice-read-left-of-3 invariant-loo
 shared-slice-read-left-of-3 c = search rules
 
 sub-left-of : tie.Need-overflow-sub-left-of invariant-loop decreases-loop
-sub-left-of c = c.before.before.before.before.before.before.before.before.requires.own-delay c.before.before.before.before.loop.g c.before.before.before.loop-test.true
+sub-left-of c = c.before.before.before.before.before.before.before.before.requires.own_delay c.before.before.before.before.loop.g c.before.before.before.loop-test.true
 
 add-left-of : tie.Need-overflow-add-left-of invariant-loop decreases-loop
-add-left-of c = omega (arith, through-small _ _ _ _ _ _ c.before.before.before.before.before.before.before.before.requires c.before.before.before.before.loop.g c.before.before.before.loop-test.true)
+add-left-of c = omega (arith, through_small _ _ _ _ _ _ c.before.before.before.before.before.before.before.before.requires c.before.before.before.before.loop.g c.before.before.before.loop-test.true)
 
 left-of-requires : tie.Need-left-of-requires invariant-loop decreases-loop
-left-of-requires c κs = (omega (arith, c.before.before.before.before.before.before.before.before.requires.deadline-small), through-small _ _ _ _ _ _ c.before.before.before.before.before.before.before.before.requires c.before.before.before.before.loop.g c.before.before.before.loop-test.true)
+left-of-requires c κs = (omega (arith, c.before.before.before.before.before.before.before.before.requires.deadline_small), through_small _ _ _ _ _ _ c.before.before.before.before.before.before.before.before.requires c.before.before.before.before.loop.g c.before.before.before.loop-test.true)
 
 mul-t21 : tie.Need-overflow-mul-t21 invariant-loop decreases-loop
 mul-t21 c = search rules
@@ -61,7 +61,7 @@ loop-less : tie.Need-loop-smaller invariant-loop decreases-loop
 loop-less c = search rules
 
 loop-again : tie.Need-loop-preserved invariant-loop decreases-loop
-loop-again c = (omega arith, length-set c.before.before.before.before.before.loop.out c.before.before.before.before.before.loop.g _ ∙ c.before.before.before.before.before.loop.invariant.1, slack-written _ _ _ _ _ _ c.before.before.before.before.before.before.before.before.before.requires c.before.before.before.before.before.loop.g c.before.before.before.before.before.loop.out c.left-of.result c.before.before.before.before.loop-test.true c.before.before.before.before.before.loop.invariant.2 c.left-of.ensures)
+loop-again c = (omega arith, length-set c.before.before.before.before.before.loop.out c.before.before.before.before.before.loop.g _ ∙ c.before.before.before.before.before.loop.invariant.1, slack_written _ _ _ _ _ _ c.before.before.before.before.before.before.before.before.before.requires c.before.before.before.before.before.loop.g c.before.before.before.before.before.loop.out c.left-of.result c.before.before.before.before.loop-test.true c.before.before.before.before.before.loop.invariant.2 c.left-of.ensures)
 
 same_length : tie.Need-same-length invariant-loop decreases-loop
 same_length c = c.before.loop.invariant.1

@@ -1,6 +1,6 @@
 -- `timing::times::times_from` meets its contract: fresh chains are made, and the times found by them. Assumes nothing.
 use borrow.Author.Rules.{rules}
-use Rattle.timing.proofs.Fresh.{fresh-chains, once-chained}
+use Rattle.timing.proofs.Fresh.{fresh_chains, once_chained}
 use Rattle.timing.proofs.times.times_from.Statement.{statement}
 use Rattle.timing.proofs.times.times_from.Tie as tie
 
@@ -11,7 +11,7 @@ slice-aggregate-chain-wires-2 : tie.Need-slice-aggregate-chain-wires-2
 slice-aggregate-chain-wires-2 c = search rules
 
 chain-wires-requires : tie.Need-chain-wires-requires
-chain-wires-requires c κs = fresh-chains _ _ _ _ _ _ _ _ _ c.before.before.before.before.before.before.before.before.requires
+chain-wires-requires c κs = fresh_chains _ _ _ _ _ _ _ _ _ c.before.before.before.before.before.before.before.before.requires
 
 slice-aggregate-latest-times : tie.Need-slice-aggregate-latest-times
 slice-aggregate-latest-times c = search rules
@@ -20,7 +20,7 @@ slice-aggregate-latest-times-2 : tie.Need-slice-aggregate-latest-times-2
 slice-aggregate-latest-times-2 c = search rules
 
 latest-times-requires : tie.Need-latest-times-requires
-latest-times-requires c κs = once-chained _ _ _ _ _ _ _ _ _ c.before.before.before.before.before.before.before.before.before.before.before.before.before.before.requires _ _ c.before.before.before.before.before.chain-wires.auto.1.1.0 c.before.before.before.before.before.chain-wires.auto.1.1.1.0 c.before.before.before.before.before.chain-wires.ensures
+latest-times-requires c κs = once_chained _ _ _ _ _ _ _ _ _ c.before.before.before.before.before.before.before.before.before.before.before.before.before.before.requires _ _ c.before.before.before.before.before.chain-wires.auto.1.1.0 c.before.before.before.before.before.chain-wires.auto.1.1.1.0 c.before.before.before.before.before.chain-wires.ensures
 
 same_length : tie.Need-same-length
 same_length c = c.before.before.latest-times.auto.1.1.1.1.1.1.1.1.1.1.0

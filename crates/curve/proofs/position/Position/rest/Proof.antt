@@ -1,7 +1,7 @@
 -- `curve::position::Position::rest` meets its contract: past the end nothing is taken, else all that is left of the pair. Assumes nothing.
 use borrow.Author.Rules.{rules}
 use mathlib.Core.Path.{sym}
-use Rattle.curve.proofs.Held.{past_pairs, taken-rest}
+use Rattle.curve.proofs.Held.{past_pairs, taken_rest}
 use Rattle.curve.proofs.position.Position.rest.Statement.{statement}
 use Rattle.curve.proofs.position.Position.rest.Tie as tie
 
@@ -25,7 +25,7 @@ wide-element-requires c κs = search rules
 returns-2 : tie.Need-returns-2
 returns-2 c =
     let a = c.before.before.before.before.before.before.args in
-    taken-rest a.pairs a.widths.now a.gains.now a.self _ _ _ c.before.before.before.if1.false c.before.before.element.ensures c.before.left-of.ensures c.wide-element.ensures
+    taken_rest a.pairs a.widths.now a.gains.now a.self _ _ _ c.before.before.before.if1.false c.before.before.element.ensures c.before.left-of.ensures c.wide-element.ensures
 
 pub rest-spec : {M : Type 1} → statement M
 rest-spec = tie.close (tie.spec returns element-requires left-of-requires add-t10 wide-element-requires returns-2)

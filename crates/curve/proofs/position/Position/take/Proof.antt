@@ -1,7 +1,7 @@
 -- `curve::position::Position::take` meets its contract: each `return` is one of the three cases of a taking. Assumes nothing.
 use borrow.Author.Rules.{rules}
 use mathlib.Core.Path.{sym}
-use Rattle.curve.proofs.Held.{past_pairs, computed, taken-stays, taken-moves}
+use Rattle.curve.proofs.Held.{past_pairs, computed, taken_stays, taken_moves}
 use Rattle.curve.proofs.position.Position.take.Statement.{statement}
 use Rattle.curve.proofs.position.Position.take.Tie as tie
 
@@ -31,7 +31,7 @@ add-t14 c = search rules
 returns-2 : tie.Need-returns-2
 returns-2 c =
     let a = c.before.before.before.before.before.before.before.before.args in
-    taken-stays _ _ _ _ _ _ _ _
+    taken_stays _ _ _ _ _ _ _ _
     (computed a.pairs a.widths.now a.gains.now a.self a.ticks _ _ _ _
     c.before.before.before.before.before.if1.false c.before.before.before.before.element.ensures c.before.before.before.left-of.ensures c.before.before.smaller.ensures c.before.wide-element.ensures)
     c.if2.true
@@ -39,7 +39,7 @@ returns-2 c =
 returns-3 : tie.Need-returns-3
 returns-3 c =
     let a = c.before.before.before.before.before.before.before.before.args in
-    taken-moves _ _ _ _ _ _ _ _
+    taken_moves _ _ _ _ _ _ _ _
     (computed a.pairs a.widths.now a.gains.now a.self a.ticks _ _ _ _
     c.before.before.before.before.before.if1.false c.before.before.before.before.element.ensures c.before.before.before.left-of.ensures c.before.before.smaller.ensures c.before.wide-element.ensures)
     c.if2.false

@@ -1,0 +1,104 @@
+#!/usr/bin/env python3
+"""Spells the repository's own definitions and lemmas in snake case: gate-count becomes gate_count.
+
+usage: python3 tools/snake_names.py [--docs]     at the top of the repository
+
+Reads crates/*/specs and crates/*/proofs, and rewrites them, the contracts in crates/*/src and the must-fail edits in place.
+With --docs it rewrites what stands between backticks in README.md, docs/ and host/*.md too.
+Names that come from the kit's libraries keep their dashes, as do those that Rattle makes in proofs/F/ (returns-2, loop-i-preserved).
+Comments keep their words, but for what stands between backticks.
+"""
+import os
+import re
+import sys
+
+TOKEN = re.compile(r"[^\s(){}\[\];,.\"`«»@]+")
+PROOF = ("Proof.antt", "Answers.antt", "Invariants.antt")
+# Names of Rust functions that stand in the same file as the definition that they meet: the definition gets a word more.
+RENAMED = {}
+
+
+def files(root, *endings):
+    for folder, dirs, names in os.walk(os.path.join(root, "crates")):
+        dirs[:] = sorted(d for d in dirs if d != "out")
+        for name in sorted(names):
+            if name.endswith(endings):
+                yield os.path.join(folder, name)
+
+
+def of_function(path):
+    return os.path.basename(path) in PROOF
+
+
+def code_of(line, mark):
+    """The line's code and its comment."""
+    at = re.search(r"(^|\s)" + mark + r"( |$)", line)
+    return (line[: at.start()], line[at.start() :]) if at else (line, "")
+
+
+def is_name(token):
+    return "-" in token and re.search(r"[^\W\d_]", token) and not token.startswith(("-", "◌"))
+
+
+def gather(root):
+    kits, own = set(), set()
+    for path in files(root, ".antt"):
+        if of_function(path):
+            continue
+        with open(path, encoding="utf-8") as f:
+            for line in f:
+                found = re.match(r"use ([\w.\-+']+)\.\{(.*)\}", line)
+                if found and not found.group(1).startswith("Rattle."):
+                    kits.update(TOKEN.findall(found.group(2)))
+                elif found and found.group(1).startswith(("Rattle.std.", "Rattle.core.")):
+                    kits.update(TOKEN.findall(found.group(2)))
+                elif not found:
+                    own.update(t for t in TOKEN.findall(code_of(line, "--")[0]) if is_name(t))
+    return own - kits
+
+
+def snake(own, text):
+    return TOKEN.sub(lambda m: RENAMED.get(m.group(0), m.group(0).replace("-", "_")) if m.group(0) in own else m.group(0), text)
+
+
+def in_ticks(own, text):
+    return re.sub(r"`[^`]*`", lambda m: snake(own, m.group(0)), text)
+
+
+def turned(own, text, mark):
+    lines = []
+    for line in text.split("\n"):
+        code, comment = code_of(line, mark)
+        lines.append(snake(own, code) + in_ticks(own, comment))
+    return "\n".join(lines)
+
+
+def main(argv):
+    root = os.getcwd()
+    own = gather(root)
+    if argv == ["--list"]:
+        print("\n".join(sorted(own)))
+        return 0
+    for path in files(root, ".antt", ".rt", ".edit"):
+        with open(path, encoding="utf-8") as f:
+            text = f.read()
+        if path.endswith(".edit"):
+            new = "\n".join(snake(own, l) if l.startswith(("old:", "new:")) else in_ticks(own, l) for l in text.split("\n"))
+        else:
+            new = turned(own, text, "--" if path.endswith(".antt") else "//")
+        if new != text:
+            with open(path, "w", encoding="utf-8") as f:
+                f.write(new)
+    if "--docs" in argv:
+        for top in ("README.md", "docs", "host"):
+            paths = [top] if os.path.isfile(top) else [os.path.join(d, n) for d, _, ns in os.walk(top) for n in ns if n.endswith(".md")]
+            for path in paths:
+                with open(path, encoding="utf-8") as f:
+                    text = f.read()
+                with open(path, "w", encoding="utf-8") as f:
+                    f.write(in_ticks(own, text))
+    return 0
+
+
+if __name__ == "__main__":
+    raise SystemExit(main(sys.argv[1:]))
