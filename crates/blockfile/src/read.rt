@@ -21,21 +21,21 @@ use ranges::edition::{activity_of, wire_delay};
 use ranges::seen::mark;
 
 // A field, or several, were read up to an offset, or refused.
-#[derive(Drop)]
+#[derive(Clone, Copy)]
 enum FieldRead {
     Read { next: usize },
     Refused(Refusal),
 }
 
 // The wires were read up to the end of the file, or refused.
-#[derive(Drop)]
+#[derive(Clone, Copy)]
 enum WiresRead {
     Read { wires: usize },
     Refused(Refusal),
 }
 
 // A block file was read, or refused.
-#[derive(Drop)]
+#[derive(Clone, Copy)]
 pub enum BlockRead {
     Read {
         gates: usize,

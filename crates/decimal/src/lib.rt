@@ -4,7 +4,7 @@ ghost use Rattle.model.specs.Printout.{digits};
 ghost use Rattle.decimal.specs.Placed.{placed, behind};
 
 // The leading digit of a number: the power of ten that it counts, and how many digits there are from it on.
-#[derive(Drop)]
+#[derive(Clone, Copy)]
 struct LeadingDigit {
     power: u64,
     count: usize,

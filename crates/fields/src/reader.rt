@@ -8,7 +8,7 @@ ghost use Rattle.fields.specs.Body.{BodyOf};
 use crate::field::{field_at, field_body, next_offset};
 use model::Field;
 
-#[derive(Drop)]
+#[derive(Clone, Copy)]
 pub struct FieldReader<'a> {
     pub file: &'a [u8],
     pub offset: usize,

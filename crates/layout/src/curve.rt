@@ -9,7 +9,7 @@ use resizing::curve::curve;
 
 // Number 0: accepted, with start, the saving at start and how many pairs were written; the place is 0. Any other number: refused there, and all else is 0.
 #[repr(C)]
-#[derive(Drop)]
+#[derive(Clone, Copy)]
 pub struct LayoutCurve {
     pub number: u32,
     pub place: u32,

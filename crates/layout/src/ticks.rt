@@ -9,7 +9,7 @@ use resizing::ticks::fewest_ticks;
 
 // Number 0: accepted, with the ticks; the place is 0. Any other number: refused there, and the ticks are 0.
 #[repr(C)]
-#[derive(Drop)]
+#[derive(Clone, Copy)]
 pub struct LayoutTicks {
     pub number: u32,
     pub place: u32,

@@ -12,7 +12,7 @@ use model::limits::GATES_SQUARED;
 use network::{Network, judge_network};
 
 // A file loaded: a well-formed block is in the arrays, or the first refusal of 1 to 9.
-#[derive(Drop)]
+#[derive(Clone, Copy)]
 pub enum Loaded {
     Sound {
         gates: usize,

@@ -4,7 +4,7 @@ pub mod activity;
 pub mod limits;
 
 // Why a file or a buffer is refused. Offsets are those of a field's tag.
-#[derive(Drop)]
+#[derive(Clone, Copy)]
 pub enum Refusal {
     // 1: a due block or gate field is missing, or a header or body passes the end.
     Short { offset: usize },
@@ -39,7 +39,7 @@ pub enum Refusal {
 }
 
 // The field at an offset of a file.
-#[derive(Drop)]
+#[derive(Clone, Copy)]
 pub enum Field {
     // Fewer bytes are left than a header has.
     NoHeader,
@@ -50,14 +50,14 @@ pub enum Field {
 }
 
 // The slacks of a block: the first `gates` elements of the lent slice.
-#[derive(Drop)]
+#[derive(Clone, Copy)]
 pub enum SlacksAnswer {
     Given { gates: usize },
     Refused(Refusal),
 }
 
 // The curve of a block: the first `pairs` elements of the two lent slices are its widths and gains.
-#[derive(Drop)]
+#[derive(Clone, Copy)]
 pub enum CurveAnswer {
     Given {
         start: u32,
@@ -68,21 +68,21 @@ pub enum CurveAnswer {
 }
 
 // The best increases of a block: the first `gates` elements of the lent slice.
-#[derive(Drop)]
+#[derive(Clone, Copy)]
 pub enum BestAnswer {
     Given { saving: u64, gates: usize },
     Refused(Refusal),
 }
 
 // The verdict on a proposed list.
-#[derive(Drop)]
+#[derive(Clone, Copy)]
 pub enum JudgeAnswer {
     Accepted { saving: u64 },
     Refused(Refusal),
 }
 
 // The fewest spare ticks for a wanted saving.
-#[derive(Drop)]
+#[derive(Clone, Copy)]
 pub enum TicksAnswer {
     Given { ticks: u32 },
     Refused(Refusal),

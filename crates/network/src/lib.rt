@@ -12,7 +12,7 @@ use loops::lowest_on_loop;
 use ordering::order_gates;
 
 // Refusal 9 alone.
-#[derive(Drop)]
+#[derive(Clone, Copy)]
 pub(crate) enum Faults {
     // No gate is at fault with its wires.
     Nowhere,
@@ -21,7 +21,7 @@ pub(crate) enum Faults {
 }
 
 // The judgement of a network.
-#[derive(Drop)]
+#[derive(Clone, Copy)]
 pub enum Network {
     // Neither refusal fits, and an order of the gates was found.
     Sound,

@@ -27,7 +27,7 @@ pub const STEP_BYTES: usize = 4;
 const MAX_WIRE_DELAY: u32 = 4095;
 
 // What is due at a place of the file, of an edition where it is known.
-#[derive(Drop)]
+#[derive(Clone, Copy)]
 pub enum Due {
     Block,
     Gate { edition: u8 },

@@ -18,7 +18,7 @@ use Rattle.model.specs.Curve.{Pair, IsCurve}
 use Rattle.model.specs.Refusal.{WellFormed}
 use Rattle.model.specs.Answer.{Outcome, Slices, accepted, refusal, refusal_answer, curve_answer, CurveBounds, fits, passes, ill_formed, well_formed, curve, AnswersCurve, AnswersTicks}
 use Rattle.loading.proofs.Refused.{refusal_numbered, not_refused}
-use Rattle.curve.specs.Position.{pair_at, pairs_in, no_pair}
+use Rattle.saving_curve.specs.Position.{pair_at, pairs_in, no_pair}
 use Rattle.reaching.specs.CurveKnown.{CurveKnown}
 
 -- pairs whose widths and gains stand in front of two slices are read off them

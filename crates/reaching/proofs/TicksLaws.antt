@@ -18,8 +18,8 @@ use Rattle.model.proofs.Limited.{BlockLimits, read_limits}
 use Rattle.model.proofs.Slack.{start_is}
 use Rattle.model.proofs.Ticks.{reached_by_curve, fewest_by_curve, fewest_small}
 use Rattle.ordering.proofs.Numbered.{sound_along}
-use Rattle.curve.specs.Position.{pair_at, pairs_in}
-use Rattle.curve.proofs.Earning.{count_off_most, fewer_earn_less}
+use Rattle.saving_curve.specs.Position.{pair_at, pairs_in}
+use Rattle.saving_curve.proofs.Earning.{count_off_most, fewer_earn_less}
 use Rattle.reaching.specs.CurveKnown.{CurveKnown}
 use Rattle.reaching.proofs.CurveLaws.{Known, known}
 

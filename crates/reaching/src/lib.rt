@@ -3,8 +3,8 @@ ghost use Rattle.std.specs.Prelude.{List, ℕ};
 ghost use Rattle.model.specs.Answer.{AnswersTicks, ticks_answer};
 ghost use Rattle.reaching.specs.CurveKnown.{CurveKnown};
 
-use curve::reach::{Reach, ticks_for};
 use model::{CurveAnswer, Refusal, TicksAnswer};
+use saving_curve::reach::{Reach, ticks_for};
 
 // The answer of the fewest ticks by that of the curve, whose pairs stand in front of the two slices: a refusal is passed on.
 pub fn ticks_on_curve(found: CurveAnswer, widths: &[u32], gains: &[u64], wanted: u64) -> TicksAnswer

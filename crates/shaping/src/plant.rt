@@ -11,7 +11,7 @@ use reduction::reduce_network;
 use slots::Answer;
 
 // The tree of a block is planted, and the last of its nodes is the top; or the block is not series-parallel, and the gate is the lowest left other than the first and the last.
-#[derive(Drop)]
+#[derive(Clone, Copy)]
 pub enum TreeAnswer {
     Planted { nodes: usize },
     NotSeriesParallel { gate: usize },

@@ -5,7 +5,7 @@ pub mod finish;
 pub mod node;
 
 // The root of the tree and the number of nodes; one gate without a wire; or not series-parallel, with the lowest gate left other than the first and the last.
-#[derive(Drop)]
+#[derive(Clone, Copy)]
 pub enum Answer {
     Root(usize, usize),
     Lone,

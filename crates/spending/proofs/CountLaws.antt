@@ -15,8 +15,8 @@ use Rattle.optimum.proofs.Optimum.{pair_range}
 use Rattle.gains.specs.Savings.{most_of_gate}
 use Rattle.sizing.proofs.Blocks.{heads_are}
 use Rattle.sizing.proofs.Spent.{spent_increases, spent_earns}
-use Rattle.curve.specs.Position.{pairs_in}
-use Rattle.curve.proofs.Earning.{count_off_most}
+use Rattle.saving_curve.specs.Position.{pairs_in}
+use Rattle.saving_curve.proofs.Earning.{count_off_most}
 use Rattle.shaping.proofs.Facts.{join, no_wire_twice, descending, ranges}
 use Rattle.spending.specs.declared.tree.TreeCurve.{TreeCurve}
 use Rattle.spending.specs.TreeHeld.{TreeArrays, TreeHeld, RunsFound, IncreasesFound}

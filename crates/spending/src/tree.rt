@@ -7,7 +7,6 @@ ghost use Rattle.spending.specs.TreeHeld.{tree_arrays, TreeHeld, RunsFound, Curv
 
 use blockwords::BLOCK_WORDS;
 use blockwords::gathering::gather;
-use curve::count::count_off;
 use gains::saving::list_saving;
 use heads::head_words::ALL_HEADS;
 use heads::tree::node_count;
@@ -15,11 +14,12 @@ use model::limits::{GateNumbers, MAX_PAIRS, StepNumbers};
 use ordering::marking::at;
 use planting::MAX_NODES;
 use planting::tree_words::TreeWords;
+use saving_curve::count::count_off;
 use sizing::curve::spend_ticks;
 use sizing::start::start;
 
 // What is found of a curve, besides its pairs: the saving at start, and how many pairs there are.
-#[derive(Drop)]
+#[derive(Clone, Copy)]
 pub struct TreeCurve {
     pub saving: u64,
     pub pairs: usize,

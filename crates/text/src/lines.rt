@@ -24,7 +24,7 @@ pub fn write_refusal(number: u64, place: u64, out: &mut [u8]) -> usize
 }
 
 // The numbers of a printout's head.
-#[derive(Drop)]
+#[derive(Clone, Copy)]
 pub struct Head {
     pub gates: usize,
     pub wires: usize,

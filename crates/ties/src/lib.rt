@@ -8,7 +8,7 @@ ghost use Rattle.ties.specs.Code.{ranks, head_of};
 const RANKS: u64 = 256;
 
 // What a gate or a part would do with one more tick: the next `width` ticks gain the same. The key is gain * RANKS + (RANKS - 1 - rank). A gain of 0 says that there is none.
-#[derive(Drop)]
+#[derive(Clone, Copy)]
 pub struct Head {
     pub key: u64,
     pub width: u64,

@@ -1,0 +1,21 @@
+-- `saving_curve::number::wide_element` meets its contract: past the end of a list `get_or` gives its default. Assumes nothing.
+use borrow.Author.Rules.{rules}
+use mathlib.Core.Path.{sym}
+use lib.ListN.{get_or-eq_default}
+use Rattle.saving_curve.proofs.number.wide_element.Statement.{statement}
+use Rattle.saving_curve.proofs.number.wide_element.Tie as tie
+
+mul-result : tie.Need-overflow-mul-result
+mul-result c = search rules
+
+shared-slice-read-result : tie.Need-shared-slice-read-result
+shared-slice-read-result c = search rules
+
+returns : tie.Need-returns
+returns c = search rules
+
+returns-2 : tie.Need-returns-2
+returns-2 c = sym (get_or-eq_default c.before.args.xs.now 0 c.if1.false)
+
+pub wide-element-spec : {M : Type 1} → statement M
+wide-element-spec = tie.close (tie.spec mul-result shared-slice-read-result returns returns-2)
