@@ -1,4 +1,6 @@
 // Increases as bytes, four each, the high byte first. Public for `laying` alone.
+#![tactic(auto)]
+
 ghost use Rattle.std.specs.Prelude.{◌≡◌, ◌++◌, ◌+◌, ◌*◌, ◌/◌, ◌%◌, ◌<◌, ◌≤◌, length, take, drop};
 ghost use Rattle.lists.specs.Over.{over};
 ghost use Rattle.model.specs.Limits.{max_gates};

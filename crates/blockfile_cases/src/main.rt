@@ -1,5 +1,7 @@
 // Reads files with faults, and prints what `read_block` answers to each.
 // Standard input: groups, each the length of a block file (2 bytes), the number of its cases (2), the file's bytes, and the cases of 8 bytes each: how many bytes are read (2), and two changes, each a place (2) and the byte to put there (1).
+#![tactic(auto)]
+
 ghost use Rattle.std.specs.Prelude.{◌≡◌, length};
 
 use blockfile::read::{BlockRead, read_block};

@@ -1,4 +1,6 @@
 // The steps and input activities of a block's gates, in one array of words. Public for `heads` and `spending` alone.
+#![tactic(auto)]
+
 pub mod gathering;
 
 ghost use Rattle.std.specs.Prelude.{◌≡◌, ◌+◌, ◌≤◌, ◌<◌, get_or};

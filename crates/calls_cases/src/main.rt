@@ -1,5 +1,7 @@
 // Runs the slacks and the judging of stored block files, and prints what they answer.
 // Standard input: records, each the length of a block file (2 bytes), four increases of 4 bytes each, and the file's bytes.
+#![tactic(auto)]
+
 ghost use Rattle.std.specs.Prelude.{◌≡◌, ◌+◌, ◌≤◌, length};
 
 use fields::field::number_at;

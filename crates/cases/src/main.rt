@@ -1,5 +1,7 @@
 // Runs the five calls on stored block files, and prints what they answer. host/CASES.md describes the input and the output.
 // Numbers and refusals come first, each printed with a blank in front; then the calls that write to lent slices, whose arrays hold a mark in every element before a call; then the fewest ticks; then judging; then the records.
+#![tactic(auto)]
+
 ghost use Rattle.std.specs.Prelude.{◌≡◌, ◌+◌, ◌*◌, ◌≤◌, length};
 ghost use Rattle.model.specs.Limits.{max_gates, max_pairs};
 

@@ -1,4 +1,6 @@
 // The decimal digits of a 64-bit number. The powers of ten are found by multiplication, each ten times the one before, as far as the number needs.
+#![tactic(auto)]
+
 ghost use Rattle.std.specs.Prelude.{◌≡◌, ◌-◌, ◌^◌, length};
 ghost use Rattle.model.specs.Printout.{digits};
 ghost use Rattle.decimal.specs.Placed.{placed, behind};

@@ -1,6 +1,8 @@
 // Writes the digits of stored numbers, and prints what `digit_count` and `write_digits` answer and leave.
 // Standard input: cases of 12 bytes, each a number (8 bytes), the place to write at (2) and how many bytes are lent (2), high byte first.
 // Standard output: a line for each case: how many digits there are, the place answered, and the bytes, of which the lent ones stand in front; all are dots before.
+#![tactic(auto)]
+
 ghost use Rattle.std.specs.Prelude.{◌≡◌, length};
 
 use decimal::{digit_count, write_digits};

@@ -1,5 +1,7 @@
 // The number of a field's refusal, 0 if it has none, in document 01's order: short header (1), tag (2), length (3), short body (1), range (4), drops (5), wire (6).
 // Public for `blockfile` alone.
+#![tactic(auto)]
+
 ghost use Rattle.std.specs.Prelude.{◌≡◌, List, ◌≤◌, eqb, length};
 ghost use Rattle.model.specs.Limits.{max_gates};
 ghost use Rattle.model.specs.Block.{Wire};

@@ -1,5 +1,7 @@
 // Ticks handed out at a node: in series to the item that leads, in parallel to both sides. The two functions call each other; each hand-over from a parallel part is to one with fewer wires.
 // Public for `sizing` alone.
+#![tactic(auto)]
+
 ghost use Rattle.std.specs.Prelude.{◌<◌};
 ghost use Rattle.planting.specs.TreeWords.{tree_nodes, tree_parents};
 ghost use Rattle.heads.specs.Plan.{kind, parent};

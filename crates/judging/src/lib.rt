@@ -1,4 +1,6 @@
 // The verdict on a list of increases for a block that is in arrays: refusals 10, 13 and 14, or the saving. For the call above.
+#![tactic(auto)]
+
 mod longest;
 
 ghost use Rattle.std.specs.Prelude.{List, ℕ};

@@ -1,4 +1,6 @@
 // The answer of the layout editor's call for a block that is in arrays: refusals 10 to 12, or the best increases as bytes. Public for `layout` alone.
+#![tactic(auto)]
+
 pub mod answer;
 
 ghost use Rattle.std.specs.Prelude.{List, ℕ};

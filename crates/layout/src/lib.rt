@@ -1,4 +1,6 @@
 // The calls for C, which host/include/honduvi.h declares: here the layout editor's, the best increases of a block file as bytes; in a file each the others, thin over those of `resizing`.
+#![tactic(auto)]
+
 pub mod curve;
 pub mod judge;
 pub mod slacks;

@@ -1,4 +1,6 @@
 // A block file read and its network judged: the refusals 1 to 9, which every call has in common.
+#![tactic(auto)]
+
 pub mod numbers;
 
 ghost use Rattle.std.specs.Prelude.{◌≡◌, ◌≤◌, length};

@@ -1,5 +1,7 @@
 // The lowest gate on a loop, by a square of marks that tells which gates reach which: the mark for gates a and b stands at a * MAX_GATES + b.
 // Asked only when the gates have no order. Public for `network` alone.
+#![tactic(auto)]
+
 ghost use Rattle.std.specs.Prelude.{◌≡◌, List, ℕ, suc, ◌+◌, ◌≤◌, ◌<◌, length, get_or};
 ghost use Rattle.model.specs.Limits.{max_gates};
 ghost use Rattle.model.specs.Block.{Block};

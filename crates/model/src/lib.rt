@@ -1,5 +1,7 @@
 // What every crate shares: the refusals, the answers of the calls, the activity of a net, and the limits of a file.
 // The definitions to believe stand in specs/; specs/Answer.antt sets out document 01's number and values for each case below.
+#![tactic(auto)]
+
 pub mod activity;
 pub mod limits;
 

@@ -1,5 +1,7 @@
 // The judgement of a network: refusal 8 (a gate reaches itself), refusal 9 (a gate is at fault with its wires), or an order of its gates.
 // Every function here is public only for the crates above. `sources` and `targets` hold the gates that each of the `m` wires joins; wire delays play no part.
+#![tactic(auto)]
+
 mod ends;
 
 ghost use Rattle.std.specs.Prelude.{◌≤◌, length};

@@ -1,6 +1,8 @@
 // An order of the gates along the wires, by counts: a gate is placed once no wire into it is left, and the wires out of each gate are passed in the order in which the gates were placed.
 // `left` holds for each gate the number of wires into it that are not passed. `sources` and `targets` hold the gates that each of the `m` wires joins; wire delays play no part.
 // Every function here is public only for the crates above.
+#![tactic(auto)]
+
 pub mod chain;
 pub mod marking;
 

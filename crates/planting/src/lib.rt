@@ -1,4 +1,6 @@
 // The tree of parts of a block, copied so that each node stands once, with its parent, and with the block's first and last gate around it.
+#![tactic(auto)]
+
 mod copy;
 mod node;
 pub mod tree_words;

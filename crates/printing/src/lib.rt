@@ -1,4 +1,6 @@
 // The printout of a block file, written into a lent slice of bytes. Its promise settles the answer and every byte afterwards, for any file and any slice.
+#![tactic(auto)]
+
 mod held;
 
 ghost use Rattle.printing.specs.PrintoutIn.{PrintoutIn};

@@ -1,4 +1,6 @@
 // The fewest ticks for a wanted saving, from the outcome of the curve. For `resizing` alone.
+#![tactic(auto)]
+
 ghost use Rattle.std.specs.Prelude.{List, ℕ};
 ghost use Rattle.model.specs.Answer.{AnswersTicks, ticks_answer};
 ghost use Rattle.reaching.specs.CurveKnown.{CurveKnown};

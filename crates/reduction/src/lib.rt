@@ -1,4 +1,6 @@
 // The reduction of a block to its tree of parts, or the verdict that it is not series-parallel. Why the verdict is exact stands in `parts`.
+#![tactic(auto)]
+
 mod lay;
 mod take;
 mod turns;

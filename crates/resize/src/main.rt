@@ -1,4 +1,6 @@
 // Prints the best increases of the block file on standard input, of which the first MAX_BYTES bytes decide.
+#![tactic(auto)]
+
 use libc::{STDIN_FILENO, STDOUT_FILENO};
 use model::limits::MAX_BYTES;
 use printing::{PRINTOUT_BYTES, printout};

@@ -1,4 +1,6 @@
 // Longest paths through a network of gates, and the slacks they leave, on lent arrays.
+#![tactic(auto)]
+
 mod latest;
 mod number;
 pub mod slack;

@@ -1,0 +1,46 @@
+-- `answers::curve_lines::curve_held` meets its contract: the tree is planted, start is measured, and the runs from the raised start on are noted. Assumes nothing.
+use Rattle.model.specs.Answer.{fits}
+use mathlib.Core.Path.{refl, sym}
+use native.Mathlib.Omega.{arith}
+use lib.Seq.{length-take-le}
+use Rattle.holding.proofs.HeldLaws.{block, startable, start_found, summable, some, the_lent}
+use Rattle.answers.proofs.Plantable.{given, wires_long}
+use Rattle.answers.proofs.PlantedLaws.{tree_held}
+use Rattle.answers.proofs.Lines.{curve_line, curve_bounds}
+use Rattle.answers.proofs.curve_lines.curve_held.Goals as goal
+
+pub plant_block-planted-requires : goal.plant_block-planted-requires
+plant_block-planted-requires c = record { given = (block c.requires.by_index.3, given c.requires.by_index.3); wires_long = wires_long c.requires.by_index.3; tree_words_in_bounds = omega arith }
+
+pub returns-in-NotSeriesParallel : goal.returns-in-NotSeriesParallel
+returns-in-NotSeriesParallel c = record { by_index_2 = (λ file arrival deadline h. fits _ (rw c.in-NotSeriesParallel.is at (c.plant_block-planted.ensures (block h) (given h))).0 refl); curve_bounds = tt }
+
+pub start_time-start-requires : goal.start_time-start-requires
+start_time-start-requires c = startable c.requires.by_index.3
+
+pub input_activities-requires : goal.input_activities-requires
+input_activities-requires c = (summable c.requires.by_index.3, some c.requires.by_index.3)
+
+pub overflow_cast-n : goal.overflow_cast-n
+overflow_cast-n c = omega (arith, (the_lent c.requires.by_index.3).gates)
+
+pub slice_bounds-tree_curve-end : goal.slice_bounds-tree_curve-end
+slice_bounds-tree_curve-end c = sym (length-take-le _ _ (omega (arith, c.requires.by_index.3.delays_long, (the_lent c.requires.by_index.3).gates)))
+
+pub slice_bounds-increases-end : goal.slice_bounds-increases-end
+slice_bounds-increases-end c = omega (arith, (the_lent c.requires.by_index.3).gates)
+
+pub slice_bounds-tree_curve-end-2 : goal.slice_bounds-tree_curve-end-2
+slice_bounds-tree_curve-end-2 c = sym (length-take-le _ _ (omega (arith, (the_lent c.requires.by_index.3).gates)))
+
+pub tree_curve-curve-requires : goal.tree_curve-curve-requires
+tree_curve-curve-requires c = record { tree_held = (block c.requires.by_index.3, (tree_held c.requires.by_index.3 (rw c.in_default.is at (c.plant_block-planted.ensures (block c.requires.by_index.3) (given c.requires.by_index.3))) _ c.input_activities.auto.out c.input_activities.ensures (start_found c.requires.by_index.3 c.start_time-start.ensures) c.start_time-start.ensures.small)); increases_len = length-take-le _ _ (omega (arith, (the_lent c.requires.by_index.3).gates)); max_pairs_in_bounds = c.requires.max_pairs_in_bounds }
+
+pub shape_of-widths : goal.shape_of-widths
+shape_of-widths c = c.tree_curve-curve.auto.pair_widths
+
+pub shape_of-gains : goal.shape_of-gains
+shape_of-gains c = c.tree_curve-curve.auto.pair_gains
+
+pub returns : goal.returns
+returns c = record { by_index_2 = (λ file arrival deadline h. curve_line h (tree_held h (rw c.in_default.is at (c.plant_block-planted.ensures (block h) (given h))) _ c.input_activities.auto.out c.input_activities.ensures (start_found h c.start_time-start.ensures) c.start_time-start.ensures.small).fits (c.tree_curve-curve.ensures (block h) (tree_held h (rw c.in_default.is at (c.plant_block-planted.ensures (block h) (given h))) _ c.input_activities.auto.out c.input_activities.ensures (start_found h c.start_time-start.ensures) c.start_time-start.ensures.small)) (start_found h c.start_time-start.ensures)); curve_bounds = curve_bounds (tree_held c.requires.by_index.3 (rw c.in_default.is at (c.plant_block-planted.ensures (block c.requires.by_index.3) (given c.requires.by_index.3))) _ c.input_activities.auto.out c.input_activities.ensures (start_found c.requires.by_index.3 c.start_time-start.ensures) c.start_time-start.ensures.small) (c.tree_curve-curve.ensures (block c.requires.by_index.3) (tree_held c.requires.by_index.3 (rw c.in_default.is at (c.plant_block-planted.ensures (block c.requires.by_index.3) (given c.requires.by_index.3))) _ c.input_activities.auto.out c.input_activities.ensures (start_found c.requires.by_index.3 c.start_time-start.ensures) c.start_time-start.ensures.small)) }

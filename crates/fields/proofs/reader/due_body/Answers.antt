@@ -1,0 +1,164 @@
+-- `fields::reader::due_body` meets its contract: a walk of its MIR, by hand. A `FieldReader` that one call returns is held in a local and passed to the next. All that the proof knows of `new` and of `body` is that each meets its contract.
+-- The machine value that `new` returns is stored and passed on as it is. In a local of a body MIR erases the lifetime of the struct's type, so the value is shown to have the type at `erased`: what the struct owns does not say the lifetime's name.
+-- Assumes nothing.
+-- the struct's type, over the signature's lifetimes
+use mathlib.Core.Path.{◌≡◌, refl, sym}
+use Prim.Native.Nat.{ℕ, ◌<◌, ◌^◌}
+use mathlib.Core.List.{List, ◌∷◌}
+use lib.ListN.{length}
+use seplogic.Ra.Ura.{Ura}
+use mir.Syntax.{named, erased, w64}
+use mir.Val.{Val, vint}
+use base.Logic.{SProp, ent, sep, emp, via, fst∗, snd∗, ex_e, id⊢}
+use base.Fml.{Lft, Share, Fml, ftrue, flft}
+use prog.Memory.{Memory}
+use prog.Routine.{Routine}
+use prog.Wp.{Calls, Loops, WpFn, Tables}
+use types.Logic.{Logic, sem}
+use contract.Lifetimes.{Lfts}
+use contract.Monad.{Fun, fact}
+use contract.Running.{tables, tables_of}
+use types.Kit.{‵, raw, ◌⊛◌, ⋆, some, later, ◌$◌, ◌∵◌, !, qed, by, move, use1, use2, split, join, pick, fsplit, fjoin, suffices, frame, await, done}
+use types.Run.{look, init, forget, stop, from, load, and_then, no_more, land, returns, enter, alloc1, alloc0, params1, pass1, pass0, free1, free0}
+use sound.WpLaws.{FmC, fm_of, WpFn-mono}
+use denote.RattleType.{RattleType, owns}
+use denote.Laws.{Is, shows}
+use denote.Plain.{uint_vals, uint_Tells, uint_Makes}
+use denote.Builtin.{u8, usize}
+use denote.Ref.{Bor, NamedLft}
+use denote.Signature.{plain, named_lft}
+use denote.Slice.{slice_val, ShrSlice, shr_slice_vals, shr_slice_Tells, shr_slice_Lawful, shr_slice_copy}
+use denote.Steps.{owned, peeks, heard, nothing}
+use denote.Struct.Laws as LL
+use denote.Triple.Call.{calls_at}
+use denote.Triple.Entry.{Vals, on_entry}
+use denote.Triple.Spec.{Meets, triple_of}
+use denote.Triple.Table.{entered, cited}
+use denote.Triple.Walked.{says, Stays, stay_none, stay_none_slice, walk_of, Goes-none, Goes-none_slice, Walks, ends_at, walked, walk_Meets}
+use denote.Exit.{yes}
+use denote.Triple.Clauses.{ensured, lasts}
+use Rattle.fields.specs.Body.{BodyOf}
+use Rattle.fields.specs.declared.reader.FieldReader.{FieldReader}
+use Rattle.fields.specs.contracts.reader.FieldReader as T
+use Rattle.fields.proofs.reader.FieldReader.TheLaws as T'
+use Rattle.fields.specs.contracts.reader.new as new
+use Rattle.fields.proofs.reader.new.Symbol as new-def
+use Rattle.fields.proofs.reader.new.Symbol.{name as #reader·new}
+use Rattle.fields.proofs.reader.new.Met as new-thm
+use Rattle.fields.specs.contracts.reader.body as body
+use Rattle.fields.proofs.reader.body.Symbol as body-def
+use Rattle.fields.proofs.reader.body.Symbol.{name as #reader·body}
+use Rattle.fields.proofs.reader.body.Met as body-thm
+use Rattle.fields.specs.contracts.reader.due_body.Key.{name as #reader·due-body}
+use Rattle.fields.specs.contracts.reader.due_body as due
+use Rattle.fields.proofs.reader.due_body.Statement as stated
+use Rattle.fields.proofs.reader.due_body.Code as code
+use Rattle.fields.proofs.reader.due_body.Goals as goal
+
+abbrev B : Lfts 1 → RattleType
+B κs = T.the_row (named_lft 1 0 tt κs)
+
+abbrev stayed : Stays (due.ended).signature.params (due.ended).kept
+stayed = (stay_none_slice (0 ∷ []) tt (plain (λ _. u8)) yes, (stay_none (λ _. usize) yes, tt))
+
+module _ {M : Type 1} {𝓤 : Ura M} (𝓛 : Logic 𝓤) (mem : Memory → SProp 𝓤) (run : Routine → Fun 𝓤) where
+  -- the contracts that the proof cites
+  abbrev New : Contract 𝓤
+  New = triple_of 𝓛 new.signature (new.spec 𝓛 mem run)
+
+  abbrev Body : Contract 𝓤
+  Body = triple_of 𝓛 body.signature (body.spec 𝓛 mem run)
+
+module _ {M : Type 1} {𝓤 : Ura M} (𝓛 : Logic 𝓤) (mem : Memory → SProp 𝓤) (run : Routine → Fun 𝓤) (κ : Lft) (q : Share) (s : Bor (List ℕ)) (n : ℕ) (ok : n < 2 ^ 64) where
+  -- the machine value that s has
+  open 𝓛 use {H}
+
+  abbrev v : Val
+  v = slice_val s.ref_ptr (length s.now)
+
+  abbrev at : Vals due.signature (κ, tt)
+  at = (v ∷ [], (vint w64 n ∷ [], tt))
+
+  -- the struct's type as a local of a body has it
+  abbrev αᵉ : NamedLft
+  αᵉ = record { mir = erased; lft = κ }
+
+  abbrev Post : Val → SProp 𝓤
+  Post = (walk_of 𝓛 due.ended stayed (due.clauses 𝓛 mem run)).post (((κ, tt), (q, tt), tt, (s, (n, tt)), at), tt)
+
+  abbrev Own : Fml
+  Own = (ShrSlice (named 0) κ u8).own_val s (v ∷ [])
+
+  -- the call of `new`: what it is passed, what it asks, and what is known of its result
+  abbrev to-new : (New 𝓛 mem run).Ghost
+  to-new = (((κ, tt), (q, tt), tt, (s, (n, tt)), at), tt)
+
+  goes-new : ent 𝓤 (on_entry 𝓛 due.signature (κ, tt) (q, tt) (s, (n, tt)) at) (sep 𝓤 ((New 𝓛 mem run).pre to-new) (sem 𝓛 Own))
+  goes-new =
+      qed 𝓛 ((‵ (flft κ q) ⊛ ‵ ftrue) ∷ ‵ (owns (ShrSlice (named 0) κ u8 ∷ usize ∷ []) (s, (n, tt)) at) ∷ []) ∵
+      move ! (1 ∷ []) $ fsplit ! $ use1 𝓛 (‵ Own ⊛ ‵ Own) ((shr_slice_copy 𝓛 (named 0) κ u8).twice s (v ∷ [])) $ split ! $
+      move ! (0 ∷ 2 ∷ []) $ fjoin ! $ move ! (2 ∷ 0 ∷ []) $ use2 𝓛 (raw ((New 𝓛 mem run).pre to-new)) (qed 𝓛 ((‵ (flft κ q) ⊛ ‵ ftrue) ∷ ‵ (owns (ShrSlice (named 0) κ u8 ∷ usize ∷ []) (s, (n, tt)) at) ∷ []) ∵ join ! $ frame ! $ done !) $ frame ! $ done !
+
+  new-said : (r : FieldReader) → ent 𝓤 (ensured 𝓛 new.ended (new.clauses 𝓛 mem run) (κ, tt) (s, (n, tt)) tt r) (fact 𝓤 ((r.file ≡ s) × (r.offset ≡ n)))
+  new-said r = ex_e 𝓤 _ (λ ws. snd∗ 𝓤 (sem 𝓛 (lasts new.ended (κ, tt) (s, (n, tt)) ws)) (fact 𝓤 ((r.file ≡ s) × (r.offset ≡ n))))
+
+  -- the call of `body`, at the struct r with the machine value u
+  abbrev to-body : FieldReader → Val → (Body 𝓛 mem run).Ghost
+  to-body r u = (((κ, tt), (q, tt), tt, (r, tt), (u ∷ [], tt)), tt)
+
+  goes-body : (r : FieldReader) (u : Val) → ent 𝓤 (⋆ 𝓛 (‵ ((B (κ, tt)).own r (u ∷ [])) ∷ (‵ (flft κ q) ⊛ ‵ ftrue) ∷ [])) ((Body 𝓛 mem run).pre (to-body r u))
+  goes-body r u = qed 𝓛 (‵ ((B (κ, tt)).own r (u ∷ [])) ∷ (‵ (flft κ q) ⊛ ‵ ftrue) ∷ []) ∵ nothing ! $ move ! (1 ∷ 0 ∷ []) $ fjoin ! $ move ! (1 ∷ 0 ∷ []) $ join ! $ frame ! $ done !
+
+  body-said : (r : FieldReader) (t : Bor (List ℕ)) → ent 𝓤 (ensured 𝓛 body.ended (body.clauses 𝓛 mem run) (κ, tt) (r, tt) tt t) (fact 𝓤 (BodyOf r.file r.offset t))
+  body-said r t = ex_e 𝓤 _ (λ ws. snd∗ 𝓤 (sem 𝓛 (lasts body.ended (κ, tt) (r, tt) ws)) (fact 𝓤 (BodyOf r.file r.offset t)))
+
+  exits : (t : Bor (List ℕ)) (u : Val) → BodyOf s n t → ent 𝓤 (⋆ 𝓛 (‵ ((ShrSlice (named 0) κ u8).own_val t (u ∷ [])) ∷ (‵ (flft κ q) ⊛ ‵ ftrue) ∷ ‵ Own ∷ [])) (Post u)
+  exits t u e =
+      qed 𝓛 (‵ ((ShrSlice (named 0) κ u8).own_val t (u ∷ [])) ∷ (‵ (flft κ q) ⊛ ‵ ftrue) ∷ ‵ Own ∷ []) ∵
+      suffices ! _ (ends_at 𝓛 due.ended stayed (due.clauses 𝓛 mem run) (((κ, tt), (q, tt), tt, (s, (n, tt)), at), tt) u t (tt, (tt, tt)) (tt, (tt, tt))) $ says ! e $
+      move ! (1 ∷ []) $ frame ! $ nothing ! $ owned ! usize (Is usize) (uint_Makes 𝓛 w64) n _ (refl, ok) $ fjoin ! $ move ! (2 ∷ 0 ∷ []) $ fjoin ! $ frame ! $ done !
+
+  module _ (C : Calls 𝓤 H) (Λ : Loops 𝓤 H) (fm : FmC 𝓤 H 𝓛.laws C) (known-new : Triple 𝓤 (C #reader·new) (New 𝓛 mem run)) (known-body : Triple 𝓤 (C #reader·body) (Body 𝓛 mem run)) where
+    walk : Is (ShrSlice (named 0) κ u8) s (v ∷ []) → ent 𝓤 (on_entry 𝓛 due.signature (κ, tt) (q, tt) (s, (n, tt)) at) (WpFn 𝓤 H C Λ code.function (v ∷ vint w64 n ∷ []) Post)
+    walk p =
+        qed 𝓛 (raw (on_entry 𝓛 due.signature (κ, tt) (q, tt) (s, (n, tt)) at) ∷ []) ∵ enter ! C Λ code.function (v ∷ vint w64 n ∷ []) _ $
+        alloc1 ! (λ l₀. alloc1 ! (λ l₁. alloc1 ! (λ l₂. alloc1 ! (λ l₃. alloc0 ! $ params1 ! $ pass1 ! (init ! 4 refl ((shr_slice_Lawful 𝓛 (named 0) κ u8).typed s (v ∷ []) p).0) $ pass1 ! (init ! 2 refl (tt, record { fits = ok })) $ pass0 ! $
+        move ! (8 ∷ []) $ use1 𝓛 (raw ((New 𝓛 mem run).pre to-new) ⊛ ‵ Own) goes-new $ split ! $
+        calls_at ! fm (New 𝓛 mem run) known-new to-new (and_then ! (load ! (from ! (stop !)) (look ! 6 refl)) (and_then ! (load ! (from ! (stop !)) (look ! 4 refl)) (no_more !))) (λ u.
+        use1 𝓛 (later (some (λ (r : FieldReader). ((‵ (flft κ q) ⊛ ‵ ftrue) ⊛ ‵ ((B (κ, tt)).own r (u ∷ []))) ⊛ raw (ensured 𝓛 new.ended (new.clauses 𝓛 mem run) (κ, tt) (s, (n, tt)) tt r)))) (id⊢ 𝓤 _) $ await ! tt $ pick ! (λ r.
+        split ! $ move ! (1 ∷ []) $ use1 𝓛 (raw (fact 𝓤 ((r.file ≡ s) × (r.offset ≡ n)))) (new-said r) $ heard ! ((r.file ≡ s) × (r.offset ≡ n)) (λ e. split ! $ move ! (1 ∷ []) $
+        -- [what the struct owns; the token; what s owns; room for _3; …; _2; …; _1; …; room for _0; …]
+        peeks ! (B (κ, tt)) (Is (B (κ, tt))) (shows 𝓛 (B (κ, tt))) r (u ∷ []) (λ is.
+        land ! (from ! (stop !)) (init ! 3 refl ((LL.lawful (T.the_type αᵉ) (T'.the_laws αᵉ) 𝓛).typed r _ is).0) $
+        use2 𝓛 (raw ((Body 𝓛 mem run).pre (to-body r u))) (goes-body r u) $
+        calls_at ! fm (Body 𝓛 mem run) known-body (to-body r u) (and_then ! (load ! (from ! (stop !)) (look ! 2 refl)) (no_more !)) (λ u'.
+        use1 𝓛 (later (some (λ (t : Bor (List ℕ)). ((‵ (flft κ q) ⊛ ‵ ftrue) ⊛ ‵ ((ShrSlice (named 0) κ u8).own_val t (u' ∷ []))) ⊛ raw (ensured 𝓛 body.ended (body.clauses 𝓛 mem run) (κ, tt) (r, tt) tt t)))) (id⊢ 𝓤 _) $ await ! tt $ pick ! (λ t.
+        split ! $ move ! (1 ∷ []) $ use1 𝓛 (raw (fact 𝓤 (BodyOf r.file r.offset t))) (body-said r t) $ heard ! (BodyOf r.file r.offset t) (λ e'. split ! $ move ! (1 ∷ []) $
+        -- [the result; the token; what s owns; _3; …; _2; …; _1; …; room for _0; …]
+        peeks ! (ShrSlice (named 0) κ u8) (Is (ShrSlice (named 0) κ u8)) (shows 𝓛 (ShrSlice (named 0) κ u8)) t (u' ∷ []) (λ is'.
+        land ! (from ! (stop !)) (init ! 9 refl ((shr_slice_Lawful 𝓛 (named 0) κ u8).typed t _ is').0) $
+        returns ! (look ! 9 refl) $ forget ! 3 refl $ forget ! 5 refl $ forget ! 7 refl $ forget ! 9 refl $ move ! (9 ∷ 10 ∷ []) $ free1 ! $ move ! (7 ∷ 8 ∷ []) $ free1 ! $ move ! (5 ∷ 6 ∷ []) $ free1 ! $ move ! (3 ∷ 4 ∷ []) $ free1 ! $ free0 ! $
+        by ! (exits t u' (rw (sym e.0, sym e.1) e'))))))))))))))
+
+module _ {M : Type 1} {𝓤 : Ura M} (𝓛 : Logic 𝓤) (mem : Memory → SProp 𝓤) (run : Routine → Fun 𝓤) where
+  open 𝓛 use {H}
+
+  due-walks : (C : Calls 𝓤 H) (Λ : Loops 𝓤 H) → FmC 𝓤 H 𝓛.laws C → Triple 𝓤 (C #reader·new) (New 𝓛 mem run) → Triple 𝓤 (C #reader·body) (Body 𝓛 mem run)
+      → Walks 𝓛 due.ended stayed (WpFn 𝓤 H C Λ code.function) (due.clauses 𝓛 mem run)
+  due-walks C Λ fm known-new known-body = walked 𝓛 due.ended stayed (due.clauses 𝓛 mem run) (WpFn 𝓤 H C Λ code.function) (λ κs. (shr_slice_vals, (uint_vals w64, tt))) (λ κs. (shr_slice_Tells (named 0) κs.0 u8, (uint_Tells w64, tt)))
+      (λ κs qs bounds a g are. via 𝓤 _ (fst∗ 𝓤 _ (emp 𝓤)) (walk 𝓛 mem run κs.0 qs.0 a.0 a.1.0 are.1.0.1 C Λ fm known-new known-body are.0))
+
+due-meets : {M : Type 1} {𝓤 : Ura M} (𝓛 : Logic 𝓤) (mem : Memory → SProp 𝓤) (run : Routine → Fun 𝓤) (𝓣 : Tables 𝓤 𝓛.H)
+    → Triple 𝓤 (𝓣.C #reader·new) (New 𝓛 mem run) → Triple 𝓤 (𝓣.C #reader·body) (Body 𝓛 mem run)
+    → Meets 𝓛 due.signature (WpFn 𝓤 𝓛.H 𝓣.C 𝓣.Λ code.function) (due.spec 𝓛 mem run)
+due-meets {𝓤 = 𝓤} 𝓛 mem run 𝓣 known-new known-body = walk_Meets 𝓛 due.ended stayed (Goes-none_slice 𝓛 1 (0 ∷ []) tt (plain (λ _. u8)) yes, (Goes-none 𝓛 1 (λ _. usize) yes (λ κs x f. refl), tt)) (due.clauses 𝓛 mem run) (WpFn 𝓤 𝓛.H 𝓣.C 𝓣.Λ code.function) (WpFn-mono 𝓤 𝓛.H 𝓛.laws 𝓣 code.function)
+    (due-walks 𝓛 mem run 𝓣.C 𝓣.Λ (fm_of 𝓤 𝓛.H 𝓛.laws 𝓣) known-new known-body)
+
+pub due-body-spec : {M : Type 1} → stated.statement M
+unfolding code.routine tables_of
+due-body-spec 𝓤 𝓛 𝓜 𝓡 =
+    entered 𝓤 𝓛.H (triple_of 𝓛 due.signature (due.spec 𝓛 𝓜.mem 𝓡.run))
+    (tables 𝓤 𝓛.H 𝓜 𝓡 code.env).C (tables 𝓤 𝓛.H 𝓜 𝓡 code.env).Λ #reader·due-body code.function (code.unfolded 𝓤 𝓛.H 𝓜 𝓡)
+    (due-meets 𝓛 𝓜.mem 𝓡.run (tables_of 𝓤 𝓛.H 𝓜 (tables 𝓤 𝓛.H 𝓜 𝓡 code.env))
+    (cited 𝓤 𝓛.H (New 𝓛 𝓜.mem 𝓡.run) 𝓜 𝓡 code.env #reader·new new-def.routine code.calls-fields::reader::new (new-thm.met 𝓤 𝓛 𝓜 𝓡))
+    (cited 𝓤 𝓛.H (Body 𝓛 𝓜.mem 𝓡.run) 𝓜 𝓡 code.env #reader·body body-def.routine code.calls-fields::reader::body (body-thm.met 𝓤 𝓛 𝓜 𝓡)))

@@ -1,0 +1,37 @@
+-- `judging::judge_held` meets its contract: room, the lowest gate that exceeds its widths, then the longest path, then the saving. Assumes nothing.
+use native.Mathlib.Omega.{arith}
+use Rattle.holding.proofs.HeldLaws.{block, the_limits, some, summable}
+use Rattle.judging.proofs.JudgeLaws.{held, widths_lent, short_refused, lowest_refused, lasting, late_refused, in_time_accepted, earnable, saved_is}
+use Rattle.judging.proofs.judge_held.Goals as goal
+
+pub returns-then-increases-n : goal.returns-then-increases-n
+returns-then-increases-n c = λ file h. short_refused h c.args.increases.now c.if-increases-n.true
+
+pub lowest_exceeding-g-requires : goal.lowest_exceeding-g-requires
+lowest_exceeding-g-requires c = (widths_lent c.requires.1, c.if-increases-n.false)
+
+pub returns-then-g-n : goal.returns-then-g-n
+returns-then-g-n c =
+    λ file h. lowest_refused h c.args.increases.now c.if-increases-n.false c.lowest_exceeding-g.result c.if-g-n.true (c.lowest_exceeding-g.ensures (block h) c.args.drops.now (held h)).0
+
+pub longest_with-longest-requires : goal.longest_with-longest-requires
+longest_with-longest-requires c =
+    lasting c.requires.1 c.args.increases.now c.if-increases-n.false c.lowest_exceeding-g.result c.if-g-n.false (c.lowest_exceeding-g.ensures (block c.requires.1) c.args.drops.now (held c.requires.1)).0
+
+pub overflow_add-arrival : goal.overflow_add-arrival
+overflow_add-arrival c = omega (arith, c.longest_with-longest.ensures.small, (the_limits c.requires.1).arrival_most)
+
+pub returns-then-deadline-arrival : goal.returns-then-deadline-arrival
+returns-then-deadline-arrival c =
+    λ file h. late_refused h c.args.increases.now c.if-increases-n.false c.lowest_exceeding-g.result c.longest_with-longest.result c.if-g-n.false (c.lowest_exceeding-g.ensures (block h) c.args.drops.now (held h)).0 c.longest_with-longest.ensures c.if-deadline-arrival.true
+
+pub input_activities-requires : goal.input_activities-requires
+input_activities-requires c = (summable c.requires.1, some c.requires.1)
+
+pub list_saving-saving-requires : goal.list_saving-saving-requires
+list_saving-saving-requires c =
+    earnable c.requires.1 c.args.increases.now c.if-increases-n.false c.input_activities.new.out c.input_activities.auto.out c.input_activities.ensures
+
+pub returns : goal.returns
+returns c =
+    λ file h. in_time_accepted h c.args.increases.now c.if-increases-n.false c.lowest_exceeding-g.result c.longest_with-longest.result c.list_saving-saving.result c.if-g-n.false (c.lowest_exceeding-g.ensures (block h) c.args.drops.now (held h)).0 c.longest_with-longest.ensures c.if-deadline-arrival.false (saved_is h c.args.increases.now c.if-increases-n.false c.input_activities.new.out c.input_activities.auto.out c.input_activities.ensures c.list_saving-saving.result c.list_saving-saving.ensures)

@@ -1,0 +1,11 @@
+-- `network::ends::first_faulty` meets its contract: no gate passed is at fault.
+-- Assumes nothing.
+use Prim.Native.Nat.{ℕ, ◌≤◌, ◌<◌, ◌-◌}
+use Rattle.network.specs.Misplaced.{Faulty}
+use Rattle.network.proofs.ends.first_faulty.Given as goal
+
+abbrev pub invariant-loop-g : goal.invariant-loop-g
+invariant-loop-g l = (l.g ≤ l.n) × ((q : ℕ) → q < l.g → ¬ (Faulty l.n l.ins l.outs q))
+
+abbrev pub decreases-loop-g : goal.decreases-loop-g
+decreases-loop-g l = l.n - l.g

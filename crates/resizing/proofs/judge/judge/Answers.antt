@@ -1,0 +1,15 @@
+-- `resizing::judge::judge` meets its contract: the refusals 1 to 9 as loading finds them, then room and the verdict. Assumes nothing.
+use Rattle.loading.proofs.Refused.{passed_on}
+use Rattle.loading.proofs.HeldFile.{held_file}
+use Rattle.resizing.proofs.judge.judge.Goals as goal
+
+pub judge_held-requires : goal.judge_held-requires
+judge_held-requires c =
+    (c.args.file.now, held_file c.args.file.now _ _ _ _ _ _ _ _ (rw c.in-Sound.is at c.load-loaded.ensures) c.load-loaded.auto.delays c.load-loaded.auto.activities c.load-loaded.auto.counts c.load-loaded.auto.step_widths c.load-loaded.auto.drops c.load-loaded.auto.sources c.load-loaded.auto.targets c.load-loaded.auto.wire_delays c.load-loaded.auto.order)
+
+pub returns-in-Refused : goal.returns-in-Refused
+returns-in-Refused c = passed_on c.in-Refused.refusal (rw c.in-Refused.is at c.load-loaded.ensures)
+
+pub returns-in-Sound : goal.returns-in-Sound
+returns-in-Sound c =
+    c.judge_held.ensures c.args.file.now (held_file c.args.file.now _ _ _ _ _ _ _ _ (rw c.in-Sound.is at c.load-loaded.ensures) c.load-loaded.auto.delays c.load-loaded.auto.activities c.load-loaded.auto.counts c.load-loaded.auto.step_widths c.load-loaded.auto.drops c.load-loaded.auto.sources c.load-loaded.auto.targets c.load-loaded.auto.wire_delays c.load-loaded.auto.order)

@@ -1,0 +1,11 @@
+-- `slots::chain::slot_in_chain` meets its contract: a walk along the chain of the slots that leave a. The next slot's number falls. Assumes nothing.
+use Prim.Native.Nat.{◌-◌}
+use Rattle.ordering.proofs.Walking.{Walking}
+use Rattle.slots.specs.Sought.{Leads}
+use Rattle.slots.proofs.chain.slot_in_chain.Given as goal
+
+abbrev pub invariant-loop-next : goal.invariant-loop-next
+invariant-loop-next l = Walking l.from l.k l.a (Leads l.live l.from l.to l.a l.b) l.next
+
+abbrev pub decreases-loop-next : goal.decreases-loop-next
+decreases-loop-next l = l.next

@@ -1,0 +1,6 @@
+-- `tallies::tally::only_slot` meets its contract. Assumes nothing.
+use native.Mathlib.Omega.{arith}
+use Rattle.tallies.proofs.tally.only_slot.Goals as goal
+
+pub overflow_cast-result : goal.overflow_cast-result
+overflow_cast-result c = omega (arith, c.shared_slice_known-1.given c.args.m)

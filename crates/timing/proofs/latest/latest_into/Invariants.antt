@@ -1,0 +1,10 @@
+-- `timing::latest::latest_into` meets its contract: a walk along the gate's chain of wires. Assumes nothing.
+use Prim.Native.Nat.{◌-◌}
+use Rattle.timing.proofs.Walk.{Walk}
+use Rattle.timing.proofs.latest.latest_into.Given as goal
+
+abbrev pub invariant-loop-next : goal.invariant-loop-next
+invariant-loop-next l = Walk l.sources l.targets l.wire_delays l.times l.base l.g l.m l.latest l.next
+
+abbrev pub decreases-loop-next : goal.decreases-loop-next
+decreases-loop-next l = l.next
