@@ -14,8 +14,8 @@ import sys
 
 TOKEN = re.compile(r"[^\s(){}\[\];,.\"`«»@]+")
 PROOF = ("Proof.antt", "Answers.antt", "Invariants.antt")
-# Names of Rust functions that stand in the same file as the definition that they meet: the definition gets a word more.
-RENAMED = {}
+# Names of the kit's that are reached through their module, as Memᴰ.not-nil.
+KITS = {"not-nil"}
 
 
 def files(root, *endings):
@@ -41,7 +41,7 @@ def is_name(token):
 
 
 def gather(root):
-    kits, own = set(), set()
+    kits, own = set(KITS), set()
     for path in files(root, ".antt"):
         if of_function(path):
             continue
@@ -58,7 +58,7 @@ def gather(root):
 
 
 def snake(own, text):
-    return TOKEN.sub(lambda m: RENAMED.get(m.group(0), m.group(0).replace("-", "_")) if m.group(0) in own else m.group(0), text)
+    return TOKEN.sub(lambda m: m.group(0).replace("-", "_") if m.group(0) in own else m.group(0), text)
 
 
 def in_ticks(own, text):

@@ -9,7 +9,7 @@ use native.Mathlib.Omega.{arith}
 use lib.ListN.{length, get_or}
 
 pub placed : {A : Type 0} {x : A} (xs : List A) (d : A) → Memᴰ x xs → (i : ℕ) × (i < length xs) × (get_or xs i d ≡ x)
-placed [] d m = absurd (Memᴰ.not_nil m)
+placed [] d m = absurd (Memᴰ.not-nil m)
 placed {A} {x} (y ∷ ys) d m = by (Memᴰ.cases_cons m) (placed ys d)
   where
     by : (x ≡ y) ⊎ Memᴰ x ys

@@ -60,7 +60,7 @@ wires_stay {M} (merge a b doubled) x y l r p = go (off_pair a b x y)
 -- At first a wire stands where one of the block does.
 pub counted : (ws : List Wire) (a b : ℕ) → (0 < wires_between ws a b) ↔ Joined ws a b
 unfolding wires_between total
-counted [] a b = (λ h. absurd (omega arith), λ j. absurd (Memᴰ.not_nil j.1))
+counted [] a b = (λ h. absurd (omega arith), λ j. absurd (Memᴰ.not-nil j.1))
 counted (w ∷ ws) a b = (there (counted ws a b).0 (off_pair a b w.source w.target), λ j. back (λ d m. (counted ws a b).1 (d, m)) j.1)
   where
     more : ℕ

@@ -24,7 +24,7 @@ use Rattle.model.proofs.Turned.{turn, stands_turned, stands_unturned, path_turne
 
 -- a wire into gate g, or that there is none
 into : (ws : List Wire) (g : ℕ) → ((a : ℕ) × (w : ℕ) × Stands ws a g w) ⊎ ((a : ℕ) → ¬ (Joined ws a g))
-into [] g = inr (λ (a : ℕ) (j : Joined [] a g). Memᴰ.not_nil j.1)
+into [] g = inr (λ (a : ℕ) (j : Joined [] a g). Memᴰ.not-nil j.1)
 into (v ∷ ws) g = by (ℕ_discrete v.target g) (into ws g)
   where
     by : Dec (v.target ≡ g)

@@ -69,7 +69,7 @@ latest_front v ws time base a g w e =
     omega arith
 
 pub latest_bounds : (ws : List Wire) (time : ℕ → ℕ) (base a g w : ℕ) → Stands ws a g w → time a + w ≤ latest_in ws time base g
-latest_bounds [] time base a g w on = absurd (Memᴰ.not_nil on)
+latest_bounds [] time base a g w on = absurd (Memᴰ.not-nil on)
 latest_bounds (v ∷ ws) time base a g w on =
     ⊎_elim (latest_front v ws time base a g w)
     (λ (m : Stands ws a g w). omega (arith, latest_bounds ws time base a g w m, latest_grows v ws time base g))

@@ -27,7 +27,7 @@ turn (w ∷ ws) = turned w ∷ turn ws
 
 pub stands_turned : {a b w : ℕ} (ws : List Wire) → Stands ws a b w → Stands (turn ws) b a w
 unfolding turn
-stands_turned [] on = absurd (Memᴰ.not_nil on)
+stands_turned [] on = absurd (Memᴰ.not-nil on)
 stands_turned {a} {b} {w} (v ∷ ws) on =
     ⊎_elim (λ (e : record { source = a; target = b; delay = w } ≡ v). Memᴰ.head (ap turned e))
     (λ (m : Stands ws a b w). Memᴰ.tail (stands_turned ws m))
@@ -35,7 +35,7 @@ stands_turned {a} {b} {w} (v ∷ ws) on =
 
 pub stands_unturned : {a b w : ℕ} (ws : List Wire) → Stands (turn ws) b a w → Stands ws a b w
 unfolding turn
-stands_unturned [] on = absurd (Memᴰ.not_nil on)
+stands_unturned [] on = absurd (Memᴰ.not-nil on)
 stands_unturned {a} {b} {w} (v ∷ ws) on =
     ⊎_elim (λ (e : record { source = b; target = a; delay = w } ≡ turned v). Memᴰ.head (ap turned e))
     (λ (m : Stands (turn ws) b a w). Memᴰ.tail (stands_unturned ws m))

@@ -85,7 +85,7 @@ module _ (B : Block) (P : Shape) (whole : Whole B P) (join : WiresJoinGates B) w
 -- a path along no wire stays where it is
 only_stays : (e : ℕ → ℕ) (a z t : ℕ) → ((a ≡ z) × (t ≡ e a)) ⊎ Onward [] e a z t → t ≤ e a
 only_stays e a z t (inl (s, k)) = omega arith
-only_stays e a z t (inr o) = absurd (Memᴰ.not_nil o.along)
+only_stays e a z t (inr o) = absurd (Memᴰ.not-nil o.along)
 
 module _ (B : Block) (single : gate_count B ≡ 1) (no_wire : B.wires ≡ []) where
   pub lone_is_tree : IsTree B (lone_tree B)

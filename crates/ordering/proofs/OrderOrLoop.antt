@@ -109,7 +109,7 @@ wire_decided ws a b s t w (no n) (no d) e = no (λ j. ⊎_elim (λ x. d (ap (λ 
 wire_decided ws a b s t w (no n) (yes i) (no d) = no (λ j. ⊎_elim (λ x. d (ap (λ (v : Wire). v.target) x)) (λ m. n (j.0, m)) (Memᴰ.cases_cons j.1))
 
 joined_decided : (ws : List Wire) (a b : ℕ) → Dec (Joined ws a b)
-joined_decided [] a b = no (λ j. Memᴰ.not_nil j.1)
+joined_decided [] a b = no (λ j. Memᴰ.not-nil j.1)
 joined_decided (w ∷ ws) a b =
     wire_decided ws a b w.source w.target w.delay (joined_decided ws a b) (ℕ_discrete a w.source) (ℕ_discrete b w.target)
 

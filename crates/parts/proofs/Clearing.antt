@@ -182,7 +182,7 @@ pub taken_away :
 taken_away P a b p w = (
   cleared P [],
   λ g i. in_cleared P [] g (inl i),
-  clear P a b p (record { wires = λ x y. (w x y).1; closed = λ x y e i. (w x y).0 e }) (λ g i. Memᴰ.not_nil) (done (λ g. (λ m. m, λ m. m))),
+  clear P a b p (record { wires = λ x y. (w x y).1; closed = λ x y e i. (w x y).0 e }) (λ g i. Memᴰ.not-nil) (done (λ g. (λ m. m, λ m. m))),
 )
 
 -- Completeness: every order of takings that ends stuck has taken all gates inside such a part.

@@ -117,11 +117,11 @@ module _ (B : Block) where
       (λ p. (s x y).0 (omega (arith, fewer M.wires a b x y)), λ q. wires_stay (R.merge a b h) x y q.0 q.1 ((s x y).1 q))
 
   begins : Faithful (R.beginning B)
-  begins x y = (λ p. (Memᴰ.not_nil, Memᴰ.not_nil, direct ((counted B.wires x y).0 p)), λ q. (counted B.wires x y).1 (only q.2))
+  begins x y = (λ p. (Memᴰ.not-nil, Memᴰ.not-nil, direct ((counted B.wires x y).0 p)), λ q. (counted B.wires x y).1 (only q.2))
     where
       only : Thru (Joined B.wires) [] x y → Joined B.wires x y
       only (direct p) = p
-      only (through p m t) = absurd (Memᴰ.not_nil m)
+      only (through p m t) = absurd (Memᴰ.not-nil m)
 
   -- Every order of takings and mergings is an order of takings.
   in_order : {M : R.Moment} → R.Moves (R.beginning B) M → Faithful M × Takes (Joined B.wires) M.taken []

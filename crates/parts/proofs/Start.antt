@@ -61,8 +61,8 @@ wire_fits : {B : Block} → Network B → (i : ℕ) → i < length B.wires → F
 wire_fits {B} n i h =
     record {
       part = λ e. n.acyclic _ (step (subst (λ g. Joined B.wires g (wire_at B.wires i).target) e joined));
-      source_left = Memᴰ.not_nil;
-      target_left = Memᴰ.not_nil;
+      source_left = Memᴰ.not-nil;
+      target_left = Memᴰ.not-nil;
       inside_gone = λ g k. absurd k;
       wires = λ x y k. subst₂ (Joined B.wires) (sym k.0) (sym k.1) joined;
     }
