@@ -90,10 +90,12 @@ module _ (m : ℕ) where
   same_gains B g k r l = rw (gate_scaled B g, drop_scaled (gate B g).steps k r l, input_scaled B g) refl
 
   stands_scaled : (ws : List Wire) {a b w : ℕ} → Stands ws a b w → Stands (map (scaled_wire m) ws) a b (m * w)
+  stands_scaled [] on = absurd (Memᴰ.not-nil on)
   stands_scaled (v ∷ ws) (Memᴰ.head e) = Memᴰ.head (ap (scaled_wire m) e)
   stands_scaled (v ∷ ws) (Memᴰ.tail on) = Memᴰ.tail (stands_scaled ws on)
 
   stands_unscaled : (ws : List Wire) {a b u : ℕ} → Stands (map (scaled_wire m) ws) a b u → (w : ℕ) × Stands ws a b w × (u ≡ m * w)
+  stands_unscaled [] on = absurd (Memᴰ.not-nil on)
   stands_unscaled (v ∷ ws) (Memᴰ.head e) =
       (v.delay, Memᴰ.head (λ i. record { source = (e i).source; target = (e i).target; delay = v.delay }), ap (λ (w : Wire). w.delay) e)
   stands_unscaled (v ∷ ws) (Memᴰ.tail on) = let (w, old, e) = stands_unscaled ws on in (w, Memᴰ.tail old, e)

@@ -34,6 +34,7 @@ by_wire w ws a b C counted other = from (eqb w.source a) (eqb w.target b) refl r
 
 -- no wire from a to b is slower than `wire_delay`
 delay_most : (ws : List Wire) (a b w : ℕ) → Stands ws a b w → w ≤ wire_delay ws a b
+delay_most [] a b w on = absurd (Memᴰ.not-nil on)
 delay_most (v ∷ ws) a b w (Memᴰ.head e) =
     by_wire v ws a b
     (λ (r : ℕ). w ≤ r)
@@ -75,6 +76,7 @@ delay_stands ws a b (w, m) = from (delay_found ws a b)
 
 -- where no wire stands twice, it is the delay of the wire
 wire_alone : (ws : List Wire) (a b w u : ℕ) → NoneTwice ws → Stands ws a b w → Stands ws a b u → w ≡ u
+wire_alone [] a b w u n on _ = absurd (Memᴰ.not-nil on)
 wire_alone (v ∷ ws) a b w u n (Memᴰ.head e) (Memᴰ.head k) = ap (λ (x : Wire). x.delay) (e ∙ sym k)
 wire_alone (v ∷ ws) a b w u n (Memᴰ.head e) (Memᴰ.tail k) =
     absurd (n.0 (u, rw (ap (λ (x : Wire). x.source) e, ap (λ (x : Wire). x.target) e) at k))

@@ -3,6 +3,7 @@
 use mathlib.Core.Path.{◌≡◌, refl, sym, ◌∙◌, ap}
 use mathlib.Core.Logic.{◌⊎◌, inl, inr}
 use mathlib.Core.Bool.{Bool, true, false, cond}
+use mathlib.Core.List.Memᴰ
 use mathlib.Core.List.{List, [], ◌∷◌, Memᴰ}
 use Prim.Native.Nat.{ℕ, zero, suc, ◌+◌, ◌*◌, ◌-◌, ◌≤◌, ◌<◌, min}
 use native.Mathlib.Nat.{add-mul, zero-mul, le_refl, le_trans, eq-zero-or-pos}
@@ -76,6 +77,7 @@ onto_falls p (q ∷ qs) w g l f =
 
 -- no gain of a curve is above its first
 pub first_is_most : (ps : List Pair) (p : Pair) → Falling ps → Memᴰ p ps → p.gain ≤ first_gain ps
+first_is_most [] p f on = absurd (Memᴰ.not-nil on)
 first_is_most (q ∷ qs) p f (Memᴰ.head e) = rw e (le_refl _)
 first_is_most (q ∷ qs) p f (Memᴰ.tail m) = omega (arith, first_is_most qs p f.2 m, f.1)
 

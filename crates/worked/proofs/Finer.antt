@@ -44,6 +44,7 @@ by_tree : (c : CurveCase) → Computes c → {C : Type 0} → ((t : Tree) → Fo
 by_tree c (rise, found) {C} each = by (tree c.block) (tree_found c.block (ascending_network c.block rise)) found
   where
     by : (r : Option Tree) → Found c.block r → FoundBy c r → C
+    by none f is = elim is [ ]
     by (some t) f is = each t f is
 
 has_curve : (c : CurveCase) → Computes c → ((g : ℕ) → Descending (gate c.block g).steps) → HasCurve c

@@ -25,6 +25,6 @@ pub returns-in-5 : goal.returns-in-5
 returns-in-5 c = rw c.in-5.is
 
 pub returns-in_default : goal.returns-in_default
-returns-in_default c = let a = above 2 c.args.fault (above 1 c.args.fault c.requires.0 c.in_default.rest.0.0.0.0.1) c.in_default.rest.0.0.0.1 in
-    let b = above 5 c.args.fault (above 4 c.args.fault (above 3 c.args.fault a c.in_default.rest.0.0.1) c.in_default.rest.0.1) c.in_default.rest.1 in
+returns-in_default c = let a = above 2 c.args.fault (above 1 c.args.fault c.requires.0 c.in_default.in_default-own.rest.0.0.0.0.1) c.in_default.in_default-own.rest.0.0.0.1 in
+    let b = above 5 c.args.fault (above 4 c.args.fault (above 3 c.args.fault a c.in_default.in_default-own.rest.0.0.1) c.in_default.in_default-own.rest.0.1) c.in_default.in_default-own.rest.1 in
     rw (le_antisymm c.requires.1 b)

@@ -30,7 +30,9 @@ pub overflow_add-l-3 : goal.overflow_add-l-3
 overflow_add-l-3 c = record { fits = omega (arith, fits _ c.args.a c.args.b c.requires.room c.write_leaf.ensures c.copy-l.ensures.count c.copy-l.ensures.written) }
 
 pub write_root-requires : goal.write_root-requires
-write_root-requires c = root_asked _ c.args.a c.args.b c.requires.room c.write_leaf.ensures c.copy-l.ensures.count c.copy-l.ensures.written c.write_leaf-2.ensures c.write_parent.ensures c.write_parent-2.ensures
+write_root-requires c =
+    let n = root_asked _ c.args.a c.args.b c.requires.room c.write_leaf.ensures c.copy-l.ensures.count c.copy-l.ensures.written c.write_leaf-2.ensures c.write_parent.ensures c.write_parent-2.ensures in
+    record { room = n.0; le_c = n.1 }
 
 pub overflow_add-result : goal.overflow_add-result
 overflow_add-result c = record { fits = omega (arith, fits _ c.args.a c.args.b c.requires.room c.write_leaf.ensures c.copy-l.ensures.count c.copy-l.ensures.written) }

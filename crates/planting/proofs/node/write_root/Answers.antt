@@ -6,4 +6,6 @@ pub write_parent_of-requires : goal.write_parent_of-requires
 write_parent_of-requires c = top_asked c.args.c c.requires.le_c c.requires.room
 
 pub returns : goal.returns
-returns c = root_done c.args.c c.requires.le_c c.requires.room _ c.write_parent_of.ensures
+returns c =
+    let d = root_done c.args.c c.requires.le_c c.requires.room _ c.write_parent_of.ensures in
+    record { written = d.0; held = d.1 }

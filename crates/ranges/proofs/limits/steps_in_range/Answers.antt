@@ -18,7 +18,7 @@ step_in_range-requires c = omega arith
 
 pub returns-then-not-step_in_range : goal.returns-then-not-step_in_range
 returns-then-not-step_in_range c =
-    sym (ranges_fail _ c.requires c.loop-j.j c.loop-j-test.true (sym c.step_in_range.ensures ∙ not-true _ c.if-not-step_in_range.true))
+    sym (ranges_fail _ c.requires c.loop-j.j c.loop-j-test.true (sym c.step_in_range.ensures ∙ c.if-not-step_in_range.true))
 
 pub overflow_add-j : goal.overflow_add-j
 overflow_add-j c = omega arith
@@ -27,7 +27,7 @@ pub loop-j-smaller : goal.loop-j-smaller
 loop-j-smaller c = omega arith
 
 pub loop-j-preserved : goal.loop-j-preserved
-loop-j-preserved c = (omega arith, below_more _ _ c.loop-j.invariant.1 (sym c.step_in_range.ensures ∙ not-false _ c.if-not-step_in_range.false))
+loop-j-preserved c = (omega arith, below_more _ _ c.loop-j.invariant.1 (sym c.step_in_range.ensures ∙ c.if-not-step_in_range.false))
 
 pub returns : goal.returns
 returns c = sym (ranges_pass _ c.requires (λ i h. c.loop-j.invariant.1 i (omega arith)))

@@ -9,16 +9,16 @@ pub bounds-body-0 : goal.bounds-body-0
 bounds-body-0 c = omega (arith, c.requires, (wire_bytes_range c.args.edition).0)
 
 pub returns-then-gates-body : goal.returns-then-gates-body
-returns-then-gates-body c = rw (le-ltb _ _ c.if-gates-body.taken)
+returns-then-gates-body c = rw (le-ltb _ _ c.if-gates-body.true)
 
 pub bounds-body-1 : goal.bounds-body-1
 bounds-body-1 c = omega (arith, c.requires, (wire_bytes_range c.args.edition).0)
 
 pub returns-then-gates-body-2 : goal.returns-then-gates-body-2
-returns-then-gates-body-2 c = rw (lt-ltb _ _ c.if-gates-body.left, le-ltb _ _ c.if-gates-body-2.taken)
+returns-then-gates-body-2 c = rw (lt-ltb _ _ c.if-gates-body.false, le-ltb _ _ c.if-gates-body-2.true)
 
 pub wire_delay-requires : goal.wire_delay-requires
 wire_delay-requires c = c.requires
 
 pub returns : goal.returns
-returns c = rw (lt-ltb _ _ c.if-gates-body.left, lt-ltb _ _ c.if-gates-body-2.left, c.wire_delay.ensures)
+returns c = rw (lt-ltb _ _ c.if-gates-body.false, lt-ltb _ _ c.if-gates-body-2.false, c.wire_delay.ensures)

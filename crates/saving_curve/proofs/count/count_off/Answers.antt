@@ -24,14 +24,14 @@ overflow_add-earned c =
 
 pub loop-left-smaller : goal.loop-left-smaller
 loop-left-smaller c =
-    turn_shortens c.args.pairs c.args.widths.now c.args.gains.now c.args.ticks c.loop-left.next c.loop-left.left c.loop-left.earned c.take-taken.result c.take-taken.ensures c.loop-left-test.true (ltb-true _ _ c.if-next-pairs.true)
+    turn_shortens c.args.pairs c.args.widths.now c.args.gains.now c.args.ticks c.loop-left.next c.loop-left.left c.loop-left.earned c.take-taken.result c.take-taken.ensures c.loop-left-test.true c.if-next-pairs.true
 
 pub loop-left-preserved : goal.loop-left-preserved
 loop-left-preserved c =
     turn_counts c.args.pairs c.args.widths.now c.args.gains.now c.args.ticks c.loop-left.next c.loop-left.left c.loop-left.earned c.take-taken.result c.take-taken.ensures c.loop-left.invariant
 
 pub returns-else-next-pairs : goal.returns-else-next-pairs
-returns-else-next-pairs c = counting_ends _ _ _ _ _ c.loop-left.invariant (inr (rw length_build (ltb-false _ _ c.if-next-pairs.false)))
+returns-else-next-pairs c = counting_ends _ _ _ _ _ c.loop-left.invariant (inr (rw length_build c.if-next-pairs.false))
 
 pub returns-after-loop-left : goal.returns-after-loop-left
 returns-after-loop-left c = counting_ends _ _ _ _ _ c.loop-left.invariant (inl (omega (arith, c.loop-left-test.false)))
