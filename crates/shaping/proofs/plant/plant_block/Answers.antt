@@ -18,13 +18,15 @@ pub overflow_cast-n : goal.overflow_cast-n
 overflow_cast-n c = record { fits = omega (arith, few_gates c.requires.given.1) }
 
 pub plant-requires : goal.plant-requires
-plant-requires c = root_asked c.requires.given.1 c.args.tree.now (rw c.in-Root.is at (c.reduce_network-answer.ensures _ (given_network c.requires.given.1) c.requires.given.1.wired)) c.reduce_network-answer.auto.kind c.requires.tree_words_in_bounds 0 (c.args.n - 1)
+plant-requires c =
+    let n = root_asked c.requires.given.1 c.args.tree.now (rw c.in-Root.is at (c.reduce_network-answer.ensures _ (given_network c.requires.given.1) c.requires.given.1.wired)) c.reduce_network-answer.auto.kind c.requires.tree_words_in_bounds 0 (c.args.n - 1) in
+    record { readable = n.0; room = n.1 }
 
 pub returns-in-Unfit : goal.returns-in-Unfit
-returns-in-Unfit c = λ B g. ((rw c.in-Unfit.is at (c.reduce_network-answer.ensures B (given_network g) g.wired)), refl)
+returns-in-Unfit c = record { planted = λ B g. ((rw c.in-Unfit.is at (c.reduce_network-answer.ensures B (given_network g) g.wired)), refl) }
 
 pub returns-in-Lone : goal.returns-in-Lone
-returns-in-Lone c = λ B g. lone_planted g _ _ (rw c.in-Lone.is at (c.reduce_network-answer.ensures B (given_network g) g.wired)) c.plant_lone.ensures.count c.plant_lone.ensures.planted c.plant_lone.ensures.written c.plant_lone.ensures.held
+returns-in-Lone c = record { planted = λ B g. lone_planted g _ _ (rw c.in-Lone.is at (c.reduce_network-answer.ensures B (given_network g) g.wired)) c.plant_lone.ensures.count c.plant_lone.ensures.planted c.plant_lone.ensures.written c.plant_lone.ensures.held }
 
 pub returns-in-Root : goal.returns-in-Root
-returns-in-Root c = λ B g. root_planted g _ _ (rw c.in-Root.is at (c.reduce_network-answer.ensures B (given_network g) g.wired)) c.plant.ensures.count c.plant.ensures.planted c.plant.ensures.written c.plant.ensures.held
+returns-in-Root c = record { planted = λ B g. root_planted g _ _ (rw c.in-Root.is at (c.reduce_network-answer.ensures B (given_network g) g.wired)) c.plant.ensures.count c.plant.ensures.planted c.plant.ensures.written c.plant.ensures.held }
