@@ -88,7 +88,7 @@ class Library:
     def __init__(self, path=None):
         path = path or default_path()
         if not os.path.exists(path):
-            raise OSError(f"{path} is not there; in Honduvi's repository 'rt staticlib layout' and 'host/run shared' make it")
+            raise OSError(f"{path} is not there; in Honduvi's repository 'scripts/build library' and 'host/run shared' make it")
         self._library = ctypes.CDLL(os.path.abspath(path))
         for name, (answer, arguments) in _CALLS.items():
             function = getattr(self._library, name, None)

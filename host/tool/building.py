@@ -17,9 +17,9 @@ TARGET = ROOT / "target"
 PROGRAM = TARGET / "bin" / "resize"
 ARCHIVE = TARGET / "staticlib" / "liblayout.a"
 LIBRARY = TARGET / "host" / "libhonduvi.so"
-# what `rt` says of a crate that it has proved, and of a library that it has proved and written
-PROVED = re.compile(r"rt: (\S+) proved \((.*)\)$")
-WRITTEN = re.compile(r"rt: target/staticlib/lib(\S+)\.a has ")
+# what `rt` says as it begins with a crate, and the prover's last line of a crate that is proved
+BEGUN = re.compile(r"rt: chose --jobs \d+ for (\S+)$")
+PROVED = re.compile(r"logic=proved\b")
 
 
 class NotBuilt(Exception):
@@ -32,7 +32,7 @@ def needs(root, name):
     for line in (root / "crates.txt").read_text().splitlines():
         crate, colon, needed = line.partition("#")[0].partition(":")
         if colon:
-            listed[crate.strip()] = needed.split()
+            listed[crate.split()[0]] = needed.split()
     found, open_crates = set(), [name]
     while open_crates:
         crate = open_crates.pop()
@@ -61,33 +61,41 @@ def is_stale(product, stamp, files):
     return not product.exists() or any(changed(file) > max(changed(product), changed(stamp)) for file in files)
 
 
-def crate_of(line):
-    """The crate that a line of the toolchain's says is proved, and how long that took; None if it says no such thing."""
-    proved, written = PROVED.match(line), WRITTEN.match(line)
-    if proved:
-        crate, took = proved.groups()
-        return crate, "as before" if "unchanged" in took else took
-    return (written.group(1), "written as a library") if written else None
+def proved_in(lines):
+    """The crates that the toolchain's lines say are proved, in turn; one that is unchanged has no lines."""
+    crate = None
+    for line in lines:
+        begun = BEGUN.match(line)
+        if begun:
+            crate = begun.group(1)
+        elif crate and PROVED.match(line):
+            yield crate
+            crate = None
 
 
-def told(crate, took, count, total, began):
-    """What the person is told of a crate."""
-    so_far = int(time.monotonic() - began)
-    return f"[{count:2}/{total}] {crate} proved, {took}; {so_far // 60}:{so_far % 60:02} so far"
+def told(crate, took, count, total, so_far):
+    """What the person is told of a crate; times in seconds."""
+    took, so_far = int(took), int(so_far)
+    return f"[{count:2}/{total}] {crate} proved, {took} s; {so_far // 60}:{so_far % 60:02} so far"
+
+
+def written(lines, stream):
+    """The lines, each written to a stream and without its end."""
+    for line in lines:
+        stream.write(line)
+        yield line.rstrip()
 
 
 def follow(command, log, total):
     """Runs a command, its output to the log; says a line for each crate that it proves. Its status."""
-    began, count = time.monotonic(), 0
+    began = last = time.monotonic()
     with open(log, "w") as stream:
         streams = {"stdin": subprocess.DEVNULL, "stdout": subprocess.PIPE, "stderr": subprocess.STDOUT}
         run = subprocess.Popen(command, cwd=ROOT, text=True, errors="replace", **streams)
-        for line in run.stdout:
-            stream.write(line)
-            crate = crate_of(line.rstrip())
-            if crate:
-                count += 1
-                say(told(*crate, count, total, began))
+        for count, crate in enumerate(proved_in(written(run.stdout, stream)), 1):
+            now = time.monotonic()
+            say(told(crate, now - last, count, total, now - began))
+            last = now
         return run.wait()
 
 
@@ -100,13 +108,13 @@ def alone():
         yield
 
 
-def prove(crate, command, product):
-    """Proves a crate and what it needs with a command that makes the product, unless that is up to date."""
+def prove(crate, part, product):
+    """Proves a crate and what it needs and makes the product, a part of scripts/build, unless that is up to date."""
     crates = needs(ROOT, crate)
     stamp = TARGET / "tool" / f"{crate}.stamp"
     if not is_stale(product, stamp, sources(ROOT, crates)):
         return
-    if shutil.which(command[0]) is None:
+    if shutil.which("rt") is None:
         raise NotBuilt("rt, the Rattle kit's command, is not installed")
     if not (ROOT / "crates" / crate).is_dir():
         raise NotBuilt(f"crates/{crate} is not there")
@@ -116,21 +124,21 @@ def prove(crate, command, product):
         log = TARGET / "tool" / f"{crate}.log"
         say(f"proving and building {crate}, once: {len(crates)} crates, some minutes; {log.relative_to(ROOT)} has the details")
         began = time.time_ns()
-        if follow(command, log, len(crates)) != 0 or not product.exists():
-            raise NotBuilt(f"'{' '.join(command)}' failed; {log} says why")
+        if follow([ROOT / "scripts" / "build", part], log, len(crates)) != 0 or not product.exists():
+            raise NotBuilt(f"'scripts/build {part}' failed; {log} says why")
         stamp.touch()
         os.utime(stamp, ns=(began, began))
 
 
 def program():
     """The printing program, up to date."""
-    prove("resize", ["rt", "check", "resize"], PROGRAM)
+    prove("resize", "program", PROGRAM)
     return PROGRAM
 
 
 def library():
     """The shared library, up to date."""
-    prove("layout", ["rt", "staticlib", "layout"], ARCHIVE)
+    prove("layout_c", "library", ARCHIVE)
     if is_stale(LIBRARY, LIBRARY, [ARCHIVE]):
         with alone():
             made = subprocess.run(

@@ -9,22 +9,26 @@ import time
 import unittest
 from pathlib import Path
 
-from building import ROOT, crate_of, needs
+from building import ROOT, needs, proved_in
 
-# proves three crates and writes a program that refuses everything; where `fails` stands, it fails
+# proves two of three crates, as if the other were unchanged, writes a program that refuses everything and runs it; where
+# `fails` stands, it fails
 TOOLCHAIN = """#!/bin/sh
-echo "$*" >> "$0.calls"
+echo "${PWD##*/}: $*" >> "$0.calls"
+exec 3>&1 >&2
 echo "note: details of the proof"
-[ -e "$0.fails" ] && { echo "rt: model NOT PROVED (exit 1, 3 s)"; exit 1; }
-echo "rt: lists proved (0 s)"
-echo "rt: model proved (unchanged since it was last proved)"
-echo "rt: resize proved (12 s)"
-mkdir -p target/bin
-[ -e "$0.keeps" ] || printf '#!/bin/sh\\ncat > /dev/null\\necho refused 1 0\\n' > target/bin/resize
-chmod +x target/bin/resize
+echo "rt: chose --jobs 2 for lists"
+[ -e "$0.fails" ] && { echo "logic=not-proved functions=1"; exit 1; }
+echo "logic=proved functions=1"
+echo "rt: chose --jobs 2 for resize"
+echo "logic=proved functions=1"
+mkdir -p out
+[ -e "$0.keeps" ] || printf '#!/bin/sh\\ncat > /dev/null\\necho refused 1 0\\n' > out/resize
+chmod +x out/resize
+out/resize >&3
 """
 
-CRATES = "# crates\nlists:\nmodel: lists\nother: model\nresize: model io libc\n"
+CRATES = "# crates\nlists:\nmodel: lists\nother: model\nresize_c staticlib: resize\nresize: model io\n"
 
 
 class FirstRun(unittest.TestCase):
@@ -43,7 +47,7 @@ class FirstRun(unittest.TestCase):
         self.toolchain = self.tools / "rt"
         self.toolchain.write_text(TOOLCHAIN)
         self.toolchain.chmod(0o755)
-        for name in ("bash", "sh", "python3", "readlink", "dirname", "cat", "mkdir", "chmod"):
+        for name in ("bash", "sh", "python3", "readlink", "dirname", "cat", "mkdir", "chmod", "cp", "mv"):
             (self.tools / name).symlink_to(shutil.which(name))
 
     def resize(self, script="scripts/resize"):
@@ -70,17 +74,17 @@ class FirstRun(unittest.TestCase):
         self.assertIn("3 crates", lines[0])
         self.assertIn("target/tool/resize.log", lines[0])
         self.assertEqual(
-            lines[1:4],
-            ["[ 1/3] lists proved, 0 s; TIME", "[ 2/3] model proved, as before; TIME", "[ 3/3] resize proved, 12 s; TIME"],
+            lines[1:3],
+            ["[ 1/3] lists proved, 0 s; TIME", "[ 2/3] resize proved, 0 s; TIME"],
         )
-        self.assertEqual(len(lines), 5)
-        self.assertIn("the file is empty", lines[4])
+        self.assertEqual(len(lines), 4)
+        self.assertIn("the file is empty", lines[3])
         self.assertIn("note: details of the proof", (self.root / "target/tool/resize.log").read_text())
 
     def test_the_second_run_proves_nothing(self):
         self.resize()
         run = self.resize()
-        self.assertEqual(self.calls(), ["check resize"])
+        self.assertEqual(self.calls(), ["resize: run"])
         self.assertEqual(len(run.stderr.splitlines()), 1)
 
     def test_a_newer_source_is_proved_again_and_once(self):
@@ -89,7 +93,7 @@ class FirstRun(unittest.TestCase):
         self.touch("model")
         self.resize()
         self.resize()
-        self.assertEqual(self.calls(), ["check resize"] * 2)
+        self.assertEqual(self.calls(), ["resize: run"] * 2)
 
     def test_a_source_that_is_gone_counts_as_a_change(self):
         (self.root / "crates/model/src/more.rt").write_text("//\n")
@@ -97,13 +101,13 @@ class FirstRun(unittest.TestCase):
         time.sleep(0.02)
         (self.root / "crates/model/src/more.rt").unlink()
         self.resize()
-        self.assertEqual(self.calls(), ["check resize"] * 2)
+        self.assertEqual(self.calls(), ["resize: run"] * 2)
 
     def test_a_crate_that_it_does_not_need_plays_no_part(self):
         self.resize()
         self.touch("other")
         self.resize()
-        self.assertEqual(self.calls(), ["check resize"])
+        self.assertEqual(self.calls(), ["resize: run"])
 
     def test_a_failing_proof_is_no_answer(self):
         Path(f"{self.toolchain}.fails").touch()
@@ -111,7 +115,7 @@ class FirstRun(unittest.TestCase):
         self.assertEqual((run.returncode, run.stdout), (2, ""))
         self.assertEqual(
             run.stderr.splitlines()[-1],
-            f"scripts/resize: 'rt check resize' failed; {self.root.resolve()}/target/tool/resize.log says why",
+            f"scripts/resize: 'scripts/build program' failed; {self.root.resolve()}/target/tool/resize.log says why",
         )
 
     def test_what_cannot_be_read_or_run_is_no_answer(self):
@@ -147,17 +151,19 @@ class FirstRun(unittest.TestCase):
 
 class Lines(unittest.TestCase):
     def test_which_lines_of_the_toolchain_are_about_a_crate(self):
-        self.assertEqual(crate_of("rt: model proved (4 s)"), ("model", "4 s"))
-        self.assertEqual(crate_of("rt: model proved (unchanged since it was last proved)"), ("model", "as before"))
-        written = "rt: target/staticlib/liblayout.a has the functions of layout that are marked"
-        self.assertEqual(crate_of(written), ("layout", "written as a library"))
-        for line in ("rt: model NOT PROVED (exit 1, 3 s)", "note: rt: model proved (4 s)", "rt: ok, 34 crates proved", ""):
-            self.assertIsNone(crate_of(line))
+        begun, proved = "rt: chose --jobs 2 for {}", "logic=proved functions=1 sum=dac8208d650f15bf"
+        model, lists = begun.format("model"), begun.format("lists")
+        self.assertEqual(list(proved_in(["only=0 proved=0", lists, "fn lists::at: proved", proved, model, proved])), ["lists", "model"])
+        self.assertEqual(list(proved_in([lists, "logic=not-proved functions=1", model, proved])), ["model"])
+        for lines in ([lists], [proved], [lists, f"note: {proved}"], [f"note: {lists}", proved], [proved, lists, ""]):
+            self.assertEqual(list(proved_in(lines)), [])
+        self.assertEqual(list(proved_in([lists, proved, proved])), ["lists"])
 
 
 class Needs(unittest.TestCase):
     def test_of_the_repository(self):
         self.assertLessEqual({"resize", "printing", "model", "lists", "heads"}, needs(ROOT, "resize"))
+        self.assertLessEqual({"layout_c", "layout", "resizing"}, needs(ROOT, "layout_c"))
         self.assertNotIn("cases", needs(ROOT, "resize"))
         self.assertNotIn("io", needs(ROOT, "resize"))
 
