@@ -27,4 +27,4 @@ pub returns-in-Read : goal.returns-in-Read
 returns-in-Read c =
     let G = gate_arrays c.read_block-read.new.delays c.read_block-read.new.activities c.read_block-read.new.counts c.read_block-read.new.step_widths c.read_block-read.new.drops in
     let W = wire_arrays c.read_block-read.new.sources c.read_block-read.new.targets c.read_block-read.new.wire_delays in
-    rw c.judged.ensures (loaded c.args.file.now c.in-Read.gates c.in-Read.wires c.in-Read.arrival c.in-Read.deadline c.in-Read.activity G W (rw c.in-Read.is at c.read_block-read.ensures) _ c.judge_network-network.new.step_widths c.judge_network-network.result c.judge_network-network.ensures.judged c.judge_network-network.ensures.same_beyond)
+    rw c.judged.ensures (loaded c.args.file.now c.in-Read.gates c.in-Read.wires c.in-Read.arrival c.in-Read.deadline c.in-Read.activity G W (rw c.in-Read.is at c.read_block-read.ensures) _ c.judge_network-network.new.order c.judge_network-network.result c.judge_network-network.ensures.judged c.judge_network-network.ensures.same_beyond)

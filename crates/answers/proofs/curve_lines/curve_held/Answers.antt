@@ -13,7 +13,7 @@ pub plant_block-planted-requires : goal.plant_block-planted-requires
 plant_block-planted-requires c = record { given = (block c.requires.by_index.3, given c.requires.by_index.3); wires_long = wires_long c.requires.by_index.3; tree_words_in_bounds = omega arith }
 
 pub returns-in-NotSeriesParallel : goal.returns-in-NotSeriesParallel
-returns-in-NotSeriesParallel c = record { by_index_2 = (λ file arrival deadline h. fits _ (rw c.in-NotSeriesParallel.is at (c.plant_block-planted.ensures (block h) (given h))).0 refl); curve_bounds = tt }
+returns-in-NotSeriesParallel c = record { by_index_2 = (λ file arrival deadline h. fits _ (rw c.in-NotSeriesParallel.is at (c.plant_block-planted.ensures.planted (block h) (given h))).0 refl); curve_bounds = tt }
 
 pub start_time-start-requires : goal.start_time-start-requires
 start_time-start-requires c = startable c.requires.by_index.3
@@ -34,7 +34,7 @@ pub slice_bounds-tree_curve-end-2 : goal.slice_bounds-tree_curve-end-2
 slice_bounds-tree_curve-end-2 c = sym (length-take-le _ _ (omega (arith, (the_lent c.requires.by_index.3).gates)))
 
 pub tree_curve-curve-requires : goal.tree_curve-curve-requires
-tree_curve-curve-requires c = record { tree_held = (block c.requires.by_index.3, (tree_held c.requires.by_index.3 (rw c.in_default.is at (c.plant_block-planted.ensures (block c.requires.by_index.3) (given c.requires.by_index.3))) _ c.input_activities.auto.out c.input_activities.ensures (start_found c.requires.by_index.3 c.start_time-start.ensures) c.start_time-start.ensures.small)); increases_len = length-take-le _ _ (omega (arith, (the_lent c.requires.by_index.3).gates)); max_pairs_in_bounds = c.requires.max_pairs_in_bounds }
+tree_curve-curve-requires c = record { tree_held = (block c.requires.by_index.3, (tree_held c.requires.by_index.3 (rw c.in_default.is at (c.plant_block-planted.ensures.planted (block c.requires.by_index.3) (given c.requires.by_index.3))) _ c.input_activities.auto.out c.input_activities.ensures (start_found c.requires.by_index.3 c.start_time-start.ensures) c.start_time-start.ensures.small)); increases_len = length-take-le _ _ (omega (arith, (the_lent c.requires.by_index.3).gates)); max_pairs_in_bounds = c.requires.max_pairs_in_bounds }
 
 pub shape_of-widths : goal.shape_of-widths
 shape_of-widths c = c.tree_curve-curve.auto.pair_widths
@@ -43,4 +43,4 @@ pub shape_of-gains : goal.shape_of-gains
 shape_of-gains c = c.tree_curve-curve.auto.pair_gains
 
 pub returns : goal.returns
-returns c = record { by_index_2 = (λ file arrival deadline h. curve_line h (tree_held h (rw c.in_default.is at (c.plant_block-planted.ensures (block h) (given h))) _ c.input_activities.auto.out c.input_activities.ensures (start_found h c.start_time-start.ensures) c.start_time-start.ensures.small).fits (c.tree_curve-curve.ensures (block h) (tree_held h (rw c.in_default.is at (c.plant_block-planted.ensures (block h) (given h))) _ c.input_activities.auto.out c.input_activities.ensures (start_found h c.start_time-start.ensures) c.start_time-start.ensures.small)) (start_found h c.start_time-start.ensures)); curve_bounds = curve_bounds (tree_held c.requires.by_index.3 (rw c.in_default.is at (c.plant_block-planted.ensures (block c.requires.by_index.3) (given c.requires.by_index.3))) _ c.input_activities.auto.out c.input_activities.ensures (start_found c.requires.by_index.3 c.start_time-start.ensures) c.start_time-start.ensures.small) (c.tree_curve-curve.ensures (block c.requires.by_index.3) (tree_held c.requires.by_index.3 (rw c.in_default.is at (c.plant_block-planted.ensures (block c.requires.by_index.3) (given c.requires.by_index.3))) _ c.input_activities.auto.out c.input_activities.ensures (start_found c.requires.by_index.3 c.start_time-start.ensures) c.start_time-start.ensures.small)) }
+returns c = record { by_index_2 = (λ file arrival deadline h. curve_line h (tree_held h (rw c.in_default.is at (c.plant_block-planted.ensures.planted (block h) (given h))) _ c.input_activities.auto.out c.input_activities.ensures (start_found h c.start_time-start.ensures) c.start_time-start.ensures.small).fits (c.tree_curve-curve.ensures (block h) (tree_held h (rw c.in_default.is at (c.plant_block-planted.ensures.planted (block h) (given h))) _ c.input_activities.auto.out c.input_activities.ensures (start_found h c.start_time-start.ensures) c.start_time-start.ensures.small)) (start_found h c.start_time-start.ensures)); curve_bounds = curve_bounds (tree_held c.requires.by_index.3 (rw c.in_default.is at (c.plant_block-planted.ensures.planted (block c.requires.by_index.3) (given c.requires.by_index.3))) _ c.input_activities.auto.out c.input_activities.ensures (start_found c.requires.by_index.3 c.start_time-start.ensures) c.start_time-start.ensures.small) (c.tree_curve-curve.ensures (block c.requires.by_index.3) (tree_held c.requires.by_index.3 (rw c.in_default.is at (c.plant_block-planted.ensures.planted (block c.requires.by_index.3) (given c.requires.by_index.3))) _ c.input_activities.auto.out c.input_activities.ensures (start_found c.requires.by_index.3 c.start_time-start.ensures) c.start_time-start.ensures.small)) }

@@ -18,4 +18,4 @@ returns-in-Refused c =
 pub returns-in-Given : goal.returns-in-Given
 returns-in-Given c =
     let found = rw c.in-Given.is at c.curve-answer.ensures in
-    record { answers_curve = found.0; unsaid_zero = refl; pair_bounds = λ (accepted : _). found.1 }
+    record { answers_curve = found.answers_curve; unsaid_zero = refl; pair_bounds = λ (accepted : _). found.curve_bounds }

@@ -10,9 +10,6 @@ continues-requires c = omega (arith, c.requires.count_in_bounds.1)
 pub overflow_sub-pair_widths : goal.overflow_sub-pair_widths
 overflow_sub-pair_widths c = let t = (rw c.if-continues.true at c.continues.ensures) in omega (arith, t.0)
 
-pub offset_bounds-pair_widths-count : goal.offset_bounds-pair_widths-count
-offset_bounds-pair_widths-count c = let t = (rw c.if-continues.true at c.continues.ensures) in omega (arith, t.0, c.requires.count_in_bounds.0, c.type_inv.pair_widths)
-
 pub bounds-pair_widths-count : goal.bounds-pair_widths-count
 bounds-pair_widths-count c = let t = (rw c.if-continues.true at c.continues.ensures) in omega (arith, t.0, c.requires.count_in_bounds.0)
 
@@ -22,29 +19,17 @@ overflow_add-pair_widths c = let t = (rw c.if-continues.true at c.continues.ensu
 pub overflow_sub-pair_widths-then-continues : goal.overflow_sub-pair_widths-then-continues
 overflow_sub-pair_widths-then-continues c = let t = (rw c.if-continues.true at c.continues.ensures) in omega (arith, t.0)
 
-pub offset_bounds-pair_widths-count-then-continues : goal.offset_bounds-pair_widths-count-then-continues
-offset_bounds-pair_widths-count-then-continues c = let t = (rw c.if-continues.true at c.continues.ensures) in omega (arith, t.0, c.requires.count_in_bounds.0, c.type_inv.pair_widths)
-
 pub bounds-pair_widths-count-then-continues : goal.bounds-pair_widths-count-then-continues
 bounds-pair_widths-count-then-continues c = let t = (rw c.if-continues.true at c.continues.ensures) in omega (arith, t.0, c.requires.count_in_bounds.0)
 
 pub returns-then-continues : goal.returns-then-continues
 returns-then-continues c = let t = (rw c.if-continues.true at c.continues.ensures) in note_widens _ _ _ _ _ (omega (arith, c.requires.count_in_bounds.0)) t.0 t.1
 
-pub offset_bounds-pair_widths-count-2 : goal.offset_bounds-pair_widths-count-2
-offset_bounds-pair_widths-count-2 c = omega (arith, c.requires.count_in_bounds.0, c.type_inv.pair_widths)
-
 pub bounds-pair_widths-count-2 : goal.bounds-pair_widths-count-2
 bounds-pair_widths-count-2 c = c.requires.count_in_bounds.0
 
-pub offset_bounds-pair_gains-count : goal.offset_bounds-pair_gains-count
-offset_bounds-pair_gains-count c = omega (arith, c.requires.count_in_bounds.0, c.type_inv.pair_widths)
-
 pub bounds-pair_gains-count : goal.bounds-pair_gains-count
 bounds-pair_gains-count c = c.requires.count_in_bounds.1
-
-pub overflow_add-result : goal.overflow_add-result
-overflow_add-result c = omega (arith, c.requires.count_in_bounds.0, c.type_inv.pair_widths)
 
 pub returns : goal.returns
 returns c = note_follows _ _ _ _ _ c.requires.count_in_bounds.0 c.requires.count_in_bounds.1 (rw c.if-continues.false at c.continues.ensures)

@@ -4,7 +4,7 @@ use Rattle.spending.proofs.TreeLaws.{curve_found}
 use Rattle.spending.proofs.tree.tree_curve.Goals as goal
 
 pub tree_runs-requires : goal.tree_runs-requires
-tree_runs-requires c = c.requires.tree_held
+tree_runs-requires c = c.requires
 
 pub shape_of-increases : goal.shape_of-increases
 shape_of-increases c = c.tree_runs.auto.increases
