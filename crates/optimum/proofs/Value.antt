@@ -6,7 +6,7 @@ use Prim.Native.Nat.{ℕ, suc, ◌+◌, ◌*◌, ◌-◌, ◌^◌, ◌≤◌, �
 use native.Mathlib.Nat.{add-mul, suc-mul, zero-mul, pow-succ', one-le-pow, pow-le-pow_right, mul-le-mul_left, mul-le-mul_right, le_refl, le_trans, le-max_left, le-max_right, max-eq_left, max-eq_right, mul-lt-mul_of_pos_right, eq-zero-or-pos, zero-sub}
 use native.Mathlib.Decide.{dec_le}
 use native.Mathlib.Omega.{arith}
-use Rattle.optimum.specs.Tree.{wire, series, parallel, Tree, count, Once, Below, size, St, next, to_left, to_gate, to_right}
+use Rattle.optimum.specs.Tree.{wire, series, parallel, Tree, count, Once, Below, size, St, next}
 use Rattle.optimum.specs.Head.{Head, Heads, rank, Item, item, beside, best_of}
 use Rattle.optimum.specs.Handout.{head}
 use Rattle.optimum.proofs.Count.{is_self}

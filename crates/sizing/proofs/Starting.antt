@@ -2,14 +2,12 @@
 -- Assumes nothing.
 use mathlib.Core.Path.{◌≡◌, ◌∙◌, sym, ap}
 use mathlib.Core.List.{List}
-use Prim.Native.Nat.{ℕ, ◌*◌, ◌^◌, ◌≤◌, ◌<◌}
+use Prim.Native.Nat.{ℕ, ◌*◌, ◌≤◌, ◌<◌}
 use native.Mathlib.Omega.{arith}
 use lib.ListN.{length}
 use Rattle.model.specs.Limits.{max_steps, max_width}
-use Rattle.optimum.specs.Tree.{St}
 use Rattle.optimum.specs.Head.{Head}
-use Rattle.optimum.specs.Handout.{head}
-use Rattle.heads.specs.Plan.{Plan, most_gates, node_count, part, kind, gate, parent}
+use Rattle.heads.specs.Plan.{Plan, most_gates, node_count, kind, gate, parent}
 use Rattle.heads.specs.Stored.{Stored, Room}
 use Rattle.handout.specs.State.{State, Ready}
 use Rattle.sizing.specs.Raise.{root, Raisable, Raised, Sizable}

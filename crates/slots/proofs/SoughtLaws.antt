@@ -1,6 +1,6 @@
 -- What the answer of a test says of what it tests. Assumes nothing.
 use mathlib.Core.Path.{◌≡◌}
-use mathlib.Core.Bool.{Bool, true, false, not, false≢true, true≢false}
+use mathlib.Core.Bool.{Bool, true, false, false≢true, true≢false}
 use Rattle.lists.specs.Search.{Says}
 
 -- an answer r, tested the other way round

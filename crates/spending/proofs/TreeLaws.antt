@@ -2,7 +2,7 @@
 -- Assumes nothing.
 use mathlib.Core.Path.{◌≡◌, refl, sym, ◌∙◌, ap}
 use mathlib.Core.List.{List, map}
-use Prim.Native.Nat.{ℕ, ◌+◌, ◌-◌, ◌*◌, ◌^◌, ◌≤◌, ◌<◌, max}
+use Prim.Native.Nat.{ℕ, ◌+◌, ◌*◌, ◌≤◌, ◌<◌}
 use native.Mathlib.Nat.{mul-le-mul_right}
 use native.Mathlib.Omega.{arith}
 use lib.ListN.{length, get_or, replicate, length-map, length-replicate, get_or-map}
@@ -10,7 +10,7 @@ use Rattle.lists.specs.Sum.{sum}
 use Rattle.lists.specs.Over.{over}
 use Rattle.lists.proofs.Sum.{sum_same, sum_le}
 use Rattle.lists.proofs.Over.{length_build, getD_build}
-use Rattle.model.specs.Limits.{max_gates, max_steps, max_width, max_pairs, max_activity, max_drop}
+use Rattle.model.specs.Limits.{max_gates, max_steps, max_width, max_pairs}
 use Rattle.model.specs.Block.{Block, gate, gate_count}
 use Rattle.model.specs.Gain.{saving}
 use Rattle.model.specs.Curve.{Pair}
@@ -21,14 +21,11 @@ use Rattle.gains.proofs.Sums.{sum_constant}
 use Rattle.gains.proofs.Held.{held_lent, held_steps}
 use Rattle.gains.proofs.Sources.{input_most}
 use Rattle.gains.proofs.Earnings.{block_earnable}
-use Rattle.optimum.specs.Tree.{Tree, St, count}
+use Rattle.optimum.specs.Tree.{Tree}
 use Rattle.optimum.specs.Head.{Head}
-use Rattle.optimum.specs.Handout.{head}
-use Rattle.optimum.specs.Gates.{gate_head}
 use Rattle.optimum.specs.Increases.{sized}
 use Rattle.optimum.specs.BlockTree.{block_tree, increases, step_count, pairs_of, IsTree}
 use Rattle.optimum.proofs.BlockTree.{block_is_tree}
-use Rattle.optimum.proofs.Range.{block_gain}
 use Rattle.planting.specs.Copy.{max_nodes}
 use Rattle.heads.specs.Plan.{Plan, part, heads_in, Sound, StepsLent}
 use Rattle.heads.specs.Stored.{head_entries}
@@ -36,12 +33,12 @@ use Rattle.heads.proofs.Heads.{gate_place, node_place}
 use Rattle.handout.specs.State.{State, state}
 use Rattle.sizing.specs.Raise.{root, delays_in, Measurable, Raised, Sizable}
 use Rattle.sizing.specs.Pairs.{pair, pairs_in, Curvable, NodeCurve}
-use Rattle.sizing.proofs.Blocks.{Held, as_many, heads_are, heads_sound, increases_are, pairs_are}
+use Rattle.sizing.proofs.Blocks.{as_many, heads_sound, increases_are, pairs_are}
 use Rattle.sizing.proofs.Bounds.{gains_small, widths_small, reach_small}
 use Rattle.heads.proofs.Locals.{gate_below}
 use Rattle.sizing.proofs.Starting.{root_curvable}
 use Rattle.sizing.proofs.Spent.{whole_curve}
-use Rattle.shaping.proofs.Facts.{join, no_wire_twice, descending, ranges}
+use Rattle.shaping.proofs.Facts.{join, descending}
 use Rattle.spending.specs.declared.tree.TreeCurve.{TreeCurve}
 use Rattle.spending.specs.TreeHeld.{TreeArrays, TreeHeld, tree_plan, RunsFound, CurveFound}
 

@@ -1,6 +1,5 @@
 -- `bigendian::write_increases` meets its contract. The invariant: the bytes of the first i increases stand in front. Assumes nothing.
 use mathlib.Core.Path.{◌≡◌, refl, ◌∙◌}
-use Prim.Native.Nat.{◌-◌}
 use native.Mathlib.Omega.{arith}
 use Rattle.bigendian.proofs.Bytes.{none_written, more_written}
 use Rattle.bigendian.proofs.write_increases.Goals as goal

@@ -4,7 +4,7 @@ use mathlib.Core.List.{[]}
 use mathlib.Core.Path.{sym, ◌∙◌}
 use native.Mathlib.Omega.{arith}
 use lib.ListN.{length}
-use borrow.Author.Tests.{eqb-true, not-true, not-false}
+use borrow.Author.Tests.{eqb-true}
 use Rattle.model.specs.Edition.{wire_bytes, delay_in}
 use Rattle.model.specs.File.{wire, says}
 use Rattle.model.proofs.Bodies.{wire_bytes_range}

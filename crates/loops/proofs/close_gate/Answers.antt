@@ -1,7 +1,6 @@
 -- `loops::close_gate` meets its contract: after a turns the first a rows are whole.
 -- Assumes nothing.
 use mathlib.Core.Path.{◌≡◌, refl, ◌∙◌}
-use Prim.Native.Nat.{◌-◌}
 use native.Mathlib.Omega.{arith}
 use Rattle.loops.proofs.Square.{gate_begins, gate_ends}
 use Rattle.loops.proofs.close_gate.Goals as goal

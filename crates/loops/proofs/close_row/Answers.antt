@@ -1,7 +1,6 @@
 -- `loops::close_row` meets its contract: after b turns the first b marks of the row are whole.
 -- Assumes nothing.
 use mathlib.Core.Path.{◌≡◌, refl, ◌∙◌}
-use Prim.Native.Nat.{◌-◌}
 use native.Mathlib.Omega.{arith}
 use Rattle.loops.proofs.Square.{pair_visited, row_ends}
 use Rattle.loops.proofs.close_row.Goals as goal

@@ -1,7 +1,6 @@
 -- `loops::close_square` meets its contract: after k turns each gate below k is let through.
 -- Assumes nothing.
 use mathlib.Core.Path.{◌≡◌, refl, ◌∙◌}
-use Prim.Native.Nat.{◌-◌}
 use native.Mathlib.Numerals.{add-one}
 use native.Mathlib.Omega.{arith}
 use Rattle.loops.proofs.Square.{none_through}

@@ -1,7 +1,6 @@
 -- `loops::first_paired` meets its contract: the gate found is the lowest of those passed.
 -- Assumes nothing.
 use mathlib.Core.Path.{◌≡◌}
-use Prim.Native.Nat.{◌-◌}
 use native.Mathlib.Omega.{arith}
 use Rattle.loops.proofs.Square.{none_searched, all_searched, self_visited}
 use Rattle.loops.proofs.first_paired.Goals as goal

@@ -1,7 +1,6 @@
 -- `network::judge_network` meets its contract: where no order exists some gate reaches itself, and an order leaves no loop.
 -- Assumes nothing.
 use mathlib.Core.Path.{subst}
-use borrow.Author.Tests.{not-true, not-false}
 use Rattle.ordering.specs.Order.{OrderFound}
 use Rattle.network.specs.Judged.{FaultFound}
 use Rattle.network.proofs.Judgement.{lowest_found, sound_judged, ends_judged}

@@ -1,7 +1,7 @@
 -- `ordering::count_wires` meets its contract: the first i wires are counted.
 -- Assumes nothing.
 use mathlib.Core.Path.{◌≡◌, refl, ◌∙◌}
-use Prim.Native.Nat.{◌+◌, ◌-◌}
+use Prim.Native.Nat.{◌+◌}
 use native.Mathlib.Omega.{arith}
 use lib.ListN.{get_or, length-set}
 use Rattle.ordering.proofs.Counts.{wires_none, wires_few, wires_more}

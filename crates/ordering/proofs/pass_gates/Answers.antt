@@ -1,7 +1,6 @@
 -- `ordering::pass_gates` meets its contract: each placed gate has its turn.
 -- Assumes nothing.
 use mathlib.Core.Path.{◌≡◌, refl, ◌∙◌}
-use Prim.Native.Nat.{◌-◌}
 use native.Mathlib.Omega.{arith}
 use Rattle.ordering.proofs.pass_gates.Goals as goal
 

@@ -1,7 +1,6 @@
 -- `ordering::place_free` meets its contract: each visit keeps `FreePlaced`, and there is room for a gate not visited.
 -- Assumes nothing.
 use mathlib.Core.Path.{◌≡◌, refl, ◌∙◌}
-use Prim.Native.Nat.{◌-◌}
 use native.Mathlib.Omega.{arith}
 use Rattle.ordering.proofs.Counts.{free_none, free_room, free_visited}
 use Rattle.ordering.proofs.place_free.Goals as goal

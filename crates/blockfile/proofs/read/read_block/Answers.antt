@@ -3,7 +3,7 @@
 -- the field was judged
 use native.Mathlib.Omega.{arith}
 use Rattle.model.specs.File.{block}
-use Rattle.blockfile.proofs.Judged.{Judged, judged, at_most_6}
+use Rattle.blockfile.proofs.Judged.{judged, at_most_6}
 use Rattle.blockfile.proofs.Whole.{block_refused, eight_bytes, gates_at_most, block_gates_refused, wires_from, block_wires_refused, block_found}
 use Rattle.blockfile.proofs.read.read_block.Goals as goal
 

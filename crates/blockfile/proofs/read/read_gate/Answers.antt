@@ -7,7 +7,7 @@ use lib.ListN.{length}
 use Rattle.model.specs.Edition.{activity_of}
 use Rattle.model.specs.File.{gate}
 use Rattle.ranges.proofs.Steps.{gate_length}
-use Rattle.blockfile.proofs.Judged.{Judged, judged, at_most_6, judged_fits}
+use Rattle.blockfile.proofs.Judged.{judged, at_most_6, judged_fits}
 use Rattle.blockfile.proofs.Gates.{gate_refused, gate_found}
 use Rattle.blockfile.proofs.read.read_gate.Goals as goal
 

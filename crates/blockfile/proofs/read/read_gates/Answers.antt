@@ -1,7 +1,6 @@
 -- `blockfile::read::read_gates` meets its contract. The loop's invariant: the gates passed were read and stand in the arrays, which are as long as they were.
 -- Assumes nothing.
 use mathlib.Core.Path.{◌∙◌}
-use Prim.Native.Nat.{◌-◌}
 use native.Mathlib.Omega.{arith}
 use Rattle.blockfile.proofs.Gates.{gates_none, gates_more, gates_refused, gates_all, lengths_same, lengths_room}
 use Rattle.blockfile.proofs.read.read_gates.Goals as goal

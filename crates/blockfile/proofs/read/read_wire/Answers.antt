@@ -1,12 +1,9 @@
 -- `blockfile::read::read_wire` meets its contract: the field is judged, and refused or stored and noted in the table.
 -- Assumes nothing.
 -- the field was judged
-use mathlib.Core.List.{List}
 use native.Mathlib.Omega.{arith}
-use Rattle.model.specs.Block.{Wire}
 use Rattle.model.specs.File.{wire}
-use Rattle.ranges.specs.Seen.{Marks}
-use Rattle.blockfile.proofs.Judged.{Judged, judged, at_most_6}
+use Rattle.blockfile.proofs.Judged.{judged, at_most_6}
 use Rattle.blockfile.proofs.Wires.{two_gates, wire_refused, wire_found}
 use Rattle.blockfile.proofs.read.read_wire.Goals as goal
 

@@ -1,7 +1,6 @@
 -- `blockfile::read::read_wires` meets its contract. The loop's invariant: the wires passed were read and stand in the arrays and in the table, which are as long as they were.
 -- Assumes nothing.
 use mathlib.Core.Path.{refl, ◌∙◌}
-use Prim.Native.Nat.{◌-◌}
 use native.Mathlib.Omega.{arith}
 use Rattle.blockfile.specs.Held.{wire_arrays, wires_held}
 use Rattle.blockfile.proofs.Wires.{so_far_none, so_far_more, so_far_refused, so_far_full, so_far_ended, wire_lengths_same, wire_lengths_room}

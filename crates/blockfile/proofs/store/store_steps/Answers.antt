@@ -1,7 +1,7 @@
 -- `blockfile::store::store_steps` meets its contract. The loop's invariant: the arrays are as long as they were, and the steps passed are stored.
 -- Assumes nothing.
 use mathlib.Core.Path.{◌≡◌, refl, ◌∙◌}
-use Prim.Native.Nat.{◌+◌, ◌*◌, ◌-◌, ◌/◌}
+use Prim.Native.Nat.{◌+◌, ◌*◌, ◌/◌}
 use native.Mathlib.Omega.{arith}
 use lib.ListN.{length, length-set}
 use Rattle.blockfile.proofs.Stores.{steps_none, steps_more, steps_all}

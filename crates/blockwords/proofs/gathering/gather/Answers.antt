@@ -1,7 +1,6 @@
 -- The loop's invariant: the number of gates and the gates below g are written.
 -- Assumes nothing.
 use borrow.Author.Rules.{rules}
-use Prim.Native.Nat.{◌-◌}
 use Rattle.blockwords.proofs.Written.{no_gates, gate_more, all_gates}
 use Rattle.blockwords.proofs.gathering.gather.Goals as goal
 

@@ -1,7 +1,6 @@
 -- The loop's invariant: the steps of gate g below j are written, and no word beside its steps.
 -- Assumes nothing.
 use borrow.Author.Rules.{rules}
-use Prim.Native.Nat.{◌-◌}
 use Rattle.blockwords.proofs.Written.{no_steps, step_more, all_steps}
 use Rattle.blockwords.proofs.gathering.gather_steps.Goals as goal
 

@@ -1,6 +1,6 @@
 -- `gains::inputs::add_wires` meets its contract: the sums over the first i wires stand in `out`. Assumes nothing.
 use mathlib.Core.Path.{◌≡◌, refl, ◌∙◌}
-use Prim.Native.Nat.{◌<◌, ◌-◌}
+use Prim.Native.Nat.{◌<◌}
 use native.Mathlib.Omega.{arith}
 use lib.ListN.{length-set}
 use Rattle.ordering.proofs.Front.{set_beyond, front_written}

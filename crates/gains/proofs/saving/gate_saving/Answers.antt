@@ -1,5 +1,4 @@
 -- `gains::saving::gate_saving` meets its contract: j steps are passed, and the ticks left earn from the others. Assumes nothing.
-use Prim.Native.Nat.{◌-◌}
 use native.Mathlib.Nat.{min-le_left}
 use native.Mathlib.Omega.{arith}
 use lib.ListN.{get_or}

@@ -1,6 +1,5 @@
 -- `gains::saving::list_saving` meets its contract: what the first g gates earn is added up. Assumes nothing.
 use mathlib.Core.Path.{◌≡◌, refl}
-use Prim.Native.Nat.{◌-◌}
 use native.Mathlib.Omega.{arith}
 use Rattle.lists.specs.Sum.{sum}
 use Rattle.gains.proofs.Earnings.{earned_more, list_saving}

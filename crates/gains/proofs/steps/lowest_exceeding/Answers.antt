@@ -1,5 +1,5 @@
 -- `gains::steps::lowest_exceeding` meets its contract: no gate passed exceeds its widths. Assumes nothing.
-use Prim.Native.Nat.{ℕ, ◌-◌}
+use Prim.Native.Nat.{ℕ}
 use native.Mathlib.Omega.{arith}
 use borrow.Author.Count.{below_more}
 use Rattle.ordering.proofs.Marks.{first_none, first_found}

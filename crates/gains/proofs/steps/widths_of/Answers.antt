@@ -1,6 +1,5 @@
 -- `gains::steps::widths_of` meets its contract: the first j widths are added up. Assumes nothing.
 use mathlib.Core.Path.{◌≡◌, refl}
-use Prim.Native.Nat.{◌-◌}
 use native.Mathlib.Omega.{arith}
 use Rattle.lists.specs.Sum.{sum}
 use Rattle.gains.proofs.Exceeding.{widths_more, widths_fit}

@@ -1,6 +1,5 @@
 -- `heads::below::renew_up` meets its contract. Assumes nothing.
 use mathlib.Core.Path.{refl}
-use Prim.Native.Nat.{◌-◌}
 use native.Mathlib.Omega.{arith}
 use Rattle.heads.proofs.Renewing.{starts, makes, node_on_way, rises, further, ends, at_top}
 use Rattle.heads.proofs.below.renew_up.Goals as goal

@@ -1,6 +1,6 @@
 -- `heads::gate::gate_head` meets its contract: j steps are passed, and the ticks left lie in the others. Assumes nothing.
 use mathlib.Core.Path.{◌∙◌, ap}
-use Prim.Native.Nat.{ℕ, ◌-◌}
+use Prim.Native.Nat.{ℕ}
 use native.Mathlib.Omega.{arith}
 use Rattle.optimum.specs.Head.{rank}
 use Rattle.heads.proofs.Stepping.{passed_none, passed_more, found_step, found_none}

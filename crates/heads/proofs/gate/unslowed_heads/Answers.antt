@@ -1,6 +1,5 @@
 -- `heads::gate::unslowed_heads` meets its contract: the heads of the gates below g are those without increase. Assumes nothing.
 use mathlib.Core.Path.{◌≡◌, refl, ◌∙◌}
-use Prim.Native.Nat.{◌-◌}
 use native.Mathlib.Omega.{arith}
 use lib.ListN.{length-set}
 use Rattle.ties.proofs.Keys.{rank_below}

@@ -1,6 +1,5 @@
 -- `judging::longest::slow_gates` meets its contract: the first g gates are slowed. Assumes nothing.
 use mathlib.Core.Path.{◌≡◌, refl, sym, ◌∙◌}
-use Prim.Native.Nat.{◌-◌}
 use native.Mathlib.Omega.{arith}
 use lib.ListN.{length-set}
 use Rattle.lists.specs.Over.{build}

@@ -1,6 +1,6 @@
 -- `network::ends::first_faulty` meets its contract: no gate passed is at fault.
 -- Assumes nothing.
-use Prim.Native.Nat.{ℕ, ◌-◌}
+use Prim.Native.Nat.{ℕ}
 use native.Mathlib.Omega.{arith}
 use borrow.Author.Count.{below_none, below_more}
 use Rattle.network.specs.Misplaced.{Faulty}

@@ -1,7 +1,7 @@
 -- `ordering::chain::chain_wires` meets its contract: the first i wires are chained.
 -- Assumes nothing.
 use mathlib.Core.Path.{◌≡◌, refl, sym, ◌∙◌}
-use Prim.Native.Nat.{◌+◌, ◌-◌}
+use Prim.Native.Nat.{◌+◌}
 use native.Mathlib.Omega.{arith}
 use lib.ListN.{get_or, length-set}
 use Rattle.ordering.proofs.Chains.{chained_none, chained_more}

@@ -1,7 +1,6 @@
 -- `ranges::limits::drops_fall` meets its contract. The loop's invariant: every drop passed is below the one before.
 -- Assumes nothing.
 use mathlib.Core.Path.{sym}
-use Prim.Native.Nat.{◌-◌}
 use native.Mathlib.Omega.{arith}
 use Rattle.ranges.proofs.Steps.{drops_pass, drops_fail_at, drops_more}
 use Rattle.ranges.proofs.limits.drops_fall.Goals as goal

@@ -1,12 +1,8 @@
 -- `ranges::limits::steps_in_range` meets its contract. The loop's invariant: every step passed is in range.
 -- Assumes nothing.
 use mathlib.Core.Path.{sym, ◌∙◌}
-use mathlib.Core.Bool.{true}
-use Prim.Native.Nat.{◌-◌}
 use native.Mathlib.Omega.{arith}
 use borrow.Author.Count.{below_none, below_more}
-use borrow.Author.Tests.{not-true, not-false}
-use Rattle.model.specs.File.{step_in_range}
 use Rattle.ranges.proofs.Steps.{ranges_pass, ranges_fail}
 use Rattle.ranges.proofs.limits.steps_in_range.Goals as goal
 

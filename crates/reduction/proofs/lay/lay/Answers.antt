@@ -1,6 +1,5 @@
 -- `reduction::lay::lay` meets its contract. The loop's invariant: the wires below i are laid out. Assumes nothing.
 use mathlib.Core.Path.{refl, ◌∙◌}
-use Prim.Native.Nat.{◌-◌}
 use native.Mathlib.Omega.{arith}
 use Rattle.reduction.proofs.LayLaws.{laid_more}
 use Rattle.reduction.proofs.lay.lay.Goals as goal

@@ -1,6 +1,5 @@
 -- `reduction::turns::reduce` meets its contract. The loop's invariant: the turns so far keep what holds of the arrays, and tallies and queue are right. The head rises. Assumes nothing.
 use mathlib.Core.Path.{refl, ◌∙◌}
-use Prim.Native.Nat.{◌-◌}
 use native.Mathlib.Omega.{arith}
 use Rattle.reduction.proofs.GoingLaws.{onwards_start, onwards_sound}
 use Rattle.reduction.proofs.QueueLaws.{queued_start}

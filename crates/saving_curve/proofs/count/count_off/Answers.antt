@@ -1,8 +1,6 @@
 -- `saving_curve::count::count_off` meets its contract: what the takings so far earn and what is counted off from the position on come to all. The measure is the ticks wanted and the pairs ahead. Assumes nothing.
 use mathlib.Core.Logic.{inl, inr}
-use Prim.Native.Nat.{◌-◌}
 use native.Mathlib.Omega.{arith}
-use borrow.Author.Tests.{ltb-true, ltb-false}
 use Rattle.lists.proofs.Over.{length_build}
 use Rattle.saving_curve.proofs.Counting.{counting_starts, counting_ends, turn_takes, turn_shortens, turn_fits, turn_counts}
 use Rattle.saving_curve.proofs.count.count_off.Goals as goal

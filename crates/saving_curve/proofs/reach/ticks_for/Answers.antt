@@ -1,5 +1,4 @@
 -- `saving_curve::reach::ticks_for` meets its contract: whole pairs are passed, and of the pair that earns enough only as many ticks as it takes. The measure is the pairs ahead. Assumes nothing.
-use Prim.Native.Nat.{◌-◌}
 use native.Mathlib.Omega.{arith}
 use Rattle.lists.proofs.Over.{length_build}
 use Rattle.saving_curve.proofs.Reaching.{at_start_enough, reaching_starts, nowhere, turn_shortens, turn_fits, turn_passes, turn_gains, turn_reaches, turn_few}

@@ -1,6 +1,5 @@
 -- `sizing::curve::spend_ticks` meets its contract: the runs noted so far, followed by those of the ticks that are left, are all runs. Assumes nothing.
 use mathlib.Core.Path.{refl, ◌∙◌, ap}
-use Prim.Native.Nat.{◌-◌}
 use native.Mathlib.Omega.{arith}
 use Rattle.optimum.specs.Head.{Head}
 use Rattle.sizing.proofs.Ticking.{run_read}

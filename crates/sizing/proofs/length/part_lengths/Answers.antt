@@ -1,6 +1,5 @@
 -- `sizing::length::part_lengths` meets its contract: the lengths of the nodes below i are right. Assumes nothing.
 use mathlib.Core.Path.{◌≡◌, refl, ◌∙◌}
-use Prim.Native.Nat.{◌-◌}
 use native.Mathlib.Omega.{arith}
 use lib.ListN.{length-set}
 use Rattle.planting.specs.TreeWords.{tree_nodes}

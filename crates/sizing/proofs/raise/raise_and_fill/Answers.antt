@@ -1,6 +1,5 @@
 -- `sizing::raise::raise_and_fill` meets its contract: the nodes below i are raised, and their heads are right. Assumes nothing.
 use mathlib.Core.Path.{◌≡◌, refl, ◌∙◌}
-use Prim.Native.Nat.{◌-◌}
 use native.Mathlib.Omega.{arith}
 use Rattle.planting.specs.TreeWords.{tree_nodes}
 use Rattle.heads.specs.Plan.{node_count}

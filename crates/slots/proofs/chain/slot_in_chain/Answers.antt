@@ -1,5 +1,4 @@
 -- `slots::chain::slot_in_chain` meets its contract: a walk along the chain of the slots that leave a. The next slot's number falls. Assumes nothing.
-use Prim.Native.Nat.{◌-◌}
 use native.Mathlib.Omega.{arith}
 use Rattle.ordering.proofs.Walking.{walking_starts, walking_on, walking_shortens}
 use Rattle.slots.proofs.ChainLaws.{found_here, none_found}

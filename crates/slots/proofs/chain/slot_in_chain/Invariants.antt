@@ -1,5 +1,4 @@
 -- `slots::chain::slot_in_chain` meets its contract: a walk along the chain of the slots that leave a. The next slot's number falls. Assumes nothing.
-use Prim.Native.Nat.{◌-◌}
 use Rattle.ordering.proofs.Walking.{Walking}
 use Rattle.slots.specs.Sought.{Leads}
 use Rattle.slots.proofs.chain.slot_in_chain.Given as goal

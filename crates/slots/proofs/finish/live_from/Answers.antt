@@ -1,6 +1,5 @@
 -- `slots::finish::live_from` meets its contract. The loop's invariant: no slot from start on and below i is live. Assumes nothing.
 use borrow.Author.Rules.{rules}
-use Prim.Native.Nat.{◌-◌}
 use native.Mathlib.Omega.{arith}
 use Rattle.slots.proofs.FinishLaws.{none_from_more}
 use Rattle.slots.proofs.finish.live_from.Goals as goal

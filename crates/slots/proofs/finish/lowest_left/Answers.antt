@@ -1,7 +1,6 @@
 -- `slots::finish::lowest_left` meets its contract. The loop's invariant: g is the lowest gate to which a live slot below i leads, or last. Assumes nothing.
 use borrow.Author.Rules.{rules}
 use mathlib.Core.Path.{subst}
-use Prim.Native.Nat.{◌-◌}
 use native.Mathlib.Omega.{arith}
 use Rattle.lists.proofs.Search.{least_of_none}
 use Rattle.slots.specs.Sought.{LowestLed}

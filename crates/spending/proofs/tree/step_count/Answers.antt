@@ -1,6 +1,6 @@
 -- `spending::tree::step_count` meets its contract: the steps of the first g gates are added up. Assumes nothing.
 use mathlib.Core.Path.{◌≡◌, refl}
-use Prim.Native.Nat.{ℕ, ◌-◌}
+use Prim.Native.Nat.{ℕ}
 use native.Mathlib.Omega.{arith}
 use lib.ListN.{get_or}
 use Rattle.lists.specs.Sum.{sum}

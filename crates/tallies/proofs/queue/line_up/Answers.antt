@@ -1,6 +1,5 @@
 -- `tallies::queue::line_up` meets its contract. The loop's invariant: the gates below g stand in the queue. Assumes nothing.
 use borrow.Author.Rules.{rules}
-use Prim.Native.Nat.{◌-◌}
 use native.Mathlib.Omega.{arith}
 use Rattle.tallies.proofs.QueueLaws.{lined_up_more}
 use Rattle.tallies.proofs.queue.line_up.Goals as goal

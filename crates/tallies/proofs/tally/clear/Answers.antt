@@ -1,6 +1,6 @@
 -- `tallies::tally::clear` meets its contract. The loop's invariant: the tallies below g are 0. Assumes nothing.
 use borrow.Author.Rules.{rules}
-use Prim.Native.Nat.{◌-◌, ◌<◌}
+use Prim.Native.Nat.{◌<◌}
 use native.Mathlib.Omega.{arith}
 use lib.ListN.{length}
 use Rattle.tallies.proofs.TallyLaws.{cleared_more}

@@ -1,7 +1,6 @@
 -- `tallies::tally::tally` meets its contract. The loop's invariant: the tallies are those of the slots below i, and small. Assumes nothing.
 use borrow.Author.Rules.{rules}
 use mathlib.Core.Path.{◌≡◌, sym, ◌∙◌}
-use Prim.Native.Nat.{◌-◌}
 use native.Mathlib.Omega.{arith}
 use Rattle.tallies.proofs.TallyLaws.{tally_none, few_more, tallied_more}
 use Rattle.tallies.proofs.tally.tally.Goals as goal

@@ -1,7 +1,6 @@
 -- `text::lines::write_gates` meets its contract. The loop's invariant: the lines of the first g gates are written.
 -- Assumes nothing.
 use mathlib.Core.Path.{◌≡◌, refl, ◌∙◌}
-use Prim.Native.Nat.{◌-◌}
 use native.Mathlib.Omega.{arith}
 use lib.ListN.{get_or}
 use lib.IntN.{pos}

@@ -1,5 +1,4 @@
 -- `timing::latest::latest_into` meets its contract: a walk along the gate's chain of wires. Assumes nothing.
-use Prim.Native.Nat.{◌-◌}
 use Rattle.timing.proofs.Walk.{Walk}
 use Rattle.timing.proofs.latest.latest_into.Given as goal
 

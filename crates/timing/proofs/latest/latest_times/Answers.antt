@@ -1,6 +1,5 @@
 -- `timing::latest::latest_times` meets its contract: the times of the gates placed before k are right. Assumes nothing.
 use mathlib.Core.Path.{◌≡◌}
-use Prim.Native.Nat.{◌-◌}
 use native.Mathlib.Omega.{arith}
 use Rattle.timing.proofs.Found.{found_none, found_walkable, found_more, found_all, found_fits}
 use Rattle.timing.proofs.latest.latest_times.Goals as goal

@@ -1,6 +1,5 @@
 -- `timing::slack::reverse_order` meets its contract: the first k elements are turned. Assumes nothing.
 use mathlib.Core.Path.{◌≡◌, refl, ◌∙◌}
-use Prim.Native.Nat.{◌-◌}
 use native.Mathlib.Omega.{arith}
 use lib.ListN.{length-set}
 use Rattle.timing.proofs.Reversal.{reversed_more}

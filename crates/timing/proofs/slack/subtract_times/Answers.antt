@@ -1,6 +1,5 @@
 -- `timing::slack::subtract_times` meets its contract: the first g slacks are written. Assumes nothing.
 use mathlib.Core.Path.{◌≡◌, refl, sym, ◌∙◌}
-use Prim.Native.Nat.{◌-◌}
 use native.Mathlib.Omega.{arith}
 use lib.ListN.{length-set}
 use Rattle.lists.specs.Over.{build}
