@@ -6,48 +6,45 @@ ghost use Rattle.std.specs.Prelude.{◌≡◌, length};
 
 use blockfile::read::{BlockRead, read_block};
 use fields::field::number_at;
-use libc::STDOUT_FILENO;
 use model::Refusal;
 use model::limits::{GATES_SQUARED, MAX_BYTES, MAX_GATES, MAX_PAIRS, MAX_WIRES};
+use reading::read_full;
+use std::io;
 
 // Bytes of the input, at most.
 const INPUT_BYTES: usize = 32768;
 
 // Prints a word and two numbers on a line of their own.
-fn print_refusal(number: u64, place: usize) {
-    io::write_all(STDOUT_FILENO, b"refused ");
-    io::print_decimal(STDOUT_FILENO, number);
-    print_number(place as u64);
-    io::write_all(STDOUT_FILENO, b"\n");
+fn print_refusal(rt: &impl Print, number: u64, place: usize) -> io::Result<()> {
+    println!(rt; "refused {number} {place}")
 }
 
 // Prints a space and a number.
-fn print_number(n: u64) {
-    io::write_all(STDOUT_FILENO, b" ");
-    io::print_decimal(STDOUT_FILENO, n);
+fn print_number(rt: &impl Print, n: u64) -> io::Result<()> {
+    print!(rt; " {n}")
 }
 
 // Prints a space and a wire's delay.
-fn print_delay(ticks: u32) {
-    print_number(ticks as u64);
+fn print_delay(rt: &impl Print, ticks: u32) -> io::Result<()> {
+    print_number(rt, ticks as u64)
 }
 
 // Prints a refusal of 1 to 7.
-fn print_file_refusal(refusal: Refusal) {
+fn print_file_refusal(rt: &impl Print, refusal: Refusal) -> io::Result<()> {
     match refusal {
-        Refusal::Short { offset } => print_refusal(1, offset),
-        Refusal::Tag { offset } => print_refusal(2, offset),
-        Refusal::Length { offset } => print_refusal(3, offset),
-        Refusal::Range { offset } => print_refusal(4, offset),
-        Refusal::Drops { offset } => print_refusal(5, offset),
-        Refusal::Wire { offset } => print_refusal(6, offset),
-        Refusal::Excess { offset } => print_refusal(7, offset),
-        _ => print_refusal(0, 0),
+        Refusal::Short { offset } => print_refusal(rt, 1, offset),
+        Refusal::Tag { offset } => print_refusal(rt, 2, offset),
+        Refusal::Length { offset } => print_refusal(rt, 3, offset),
+        Refusal::Range { offset } => print_refusal(rt, 4, offset),
+        Refusal::Drops { offset } => print_refusal(rt, 5, offset),
+        Refusal::Wire { offset } => print_refusal(rt, 6, offset),
+        Refusal::Excess { offset } => print_refusal(rt, 7, offset),
+        _ => print_refusal(rt, 0, 0),
     }
 }
 
 // Reads a file and prints the answer, with the delay of the first wire where there is one.
-fn run(file: &[u8]) {
+fn run(rt: &impl Print, file: &[u8]) -> io::Result<()> {
     let mut delays = [0u32; MAX_GATES];
     let mut activities = [0u32; MAX_GATES];
     let mut counts = [0u32; MAX_GATES];
@@ -70,7 +67,7 @@ fn run(file: &[u8]) {
         &mut seen,
     );
     match answer {
-        BlockRead::Refused(refusal) => print_file_refusal(refusal),
+        BlockRead::Refused(refusal) => print_file_refusal(rt, refusal),
         BlockRead::Read {
             gates,
             wires,
@@ -78,30 +75,23 @@ fn run(file: &[u8]) {
             deadline,
             activity,
         } => {
-            io::write_all(STDOUT_FILENO, b"read ");
-            io::print_decimal(STDOUT_FILENO, gates as u64);
-            print_number(wires as u64);
-            print_number(arrival as u64);
-            print_number(deadline as u64);
-            print_number(activity as u64);
+            print!(rt; "read {gates}")?;
+            print_number(rt, wires as u64)?;
+            print_number(rt, arrival as u64)?;
+            print_number(rt, deadline as u64)?;
+            print_number(rt, activity as u64)?;
             if 0 < wires {
-                print_delay(wire_delays[0]);
+                print_delay(rt, wire_delays[0])?;
             }
-            io::write_all(STDOUT_FILENO, b"\n");
+            println!(rt)
         }
     }
 }
 
 // Copies bytes to the front of another slice, as far as it goes.
 fn copy(bytes: &[u8], to: &mut [u8]) {
-    let mut i = 0;
-    while i < bytes.len() {
-        if to.len() <= i {
-            return;
-        }
-        to[i] = bytes[i];
-        i += 1;
-    }
+    let n = bytes.len().min(to.len());
+    to[..n].copy_from_slice(&bytes[..n]);
 }
 
 // Puts a byte at a place, if there is one.
@@ -112,7 +102,7 @@ fn change(file: &mut [u8], place: usize, byte: u8) {
 }
 
 // One case: the block, changed twice and cut.
-fn run_case(block: &[u8], case: &[u8])
+fn run_case(rt: &impl Print, block: &[u8], case: &[u8]) -> io::Result<()>
     requires { length case.now ≡ 8 }
 {
     let mut file = [0u8; MAX_BYTES];
@@ -121,36 +111,37 @@ fn run_case(block: &[u8], case: &[u8])
     change(&mut file, number_at(case, 5) as usize, case[7]);
     let size = number_at(case, 0) as usize;
     if size <= MAX_BYTES {
-        run(&file[..size]);
+        run(rt, &file[..size])?;
     }
+    Ok(())
 }
 
 // All cases of a block.
-fn run_cases(block: &[u8], cases: &[u8]) {
-    let mut at: usize = 0;
-    while at + 8 <= cases.len() {
-        run_case(block, &cases[at..at + 8]);
-        at += 8;
+fn run_cases(rt: &impl Print, block: &[u8], cases: &[u8]) -> io::Result<()> {
+    for case in cases.chunks_exact(8) {
+        run_case(rt, block, case)?;
     }
+    Ok(())
 }
 
 // All groups of an input.
-fn run_all(input: &[u8]) {
-    let mut at: usize = 0;
-    while at + 4 <= input.len() {
-        let from = at + 4;
-        let to = from + number_at(input, at) as usize;
-        let end = to + 8 * number_at(input, at + 2) as usize;
-        if input.len() < end {
-            return;
-        }
-        run_cases(&input[from..to], &input[to..end]);
-        at = end;
+fn run_all(rt: &impl Print, input: &[u8]) -> io::Result<()> {
+    let mut rest = input;
+    while let Some((head, after)) = rest.split_at_checked(4) {
+        let Some((block, after)) = after.split_at_checked(number_at(head, 0) as usize) else {
+            return Ok(());
+        };
+        let Some((cases, next)) = after.split_at_checked(8 * number_at(head, 2) as usize) else {
+            return Ok(());
+        };
+        run_cases(rt, block, cases)?;
+        rest = next;
     }
+    Ok(())
 }
 
-fn main() {
+fn main(rt: HostRuntime) -> io::Result<()> {
     let mut input = [0u8; INPUT_BYTES];
-    let n = io::read_full(0, &mut input);
-    run_all(&input[..n]);
+    let n = read_full(&mut rt.stdin(), &mut input)?;
+    run_all(&rt, &input[..n])
 }

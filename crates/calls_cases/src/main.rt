@@ -5,80 +5,79 @@
 ghost use Rattle.std.specs.Prelude.{◌≡◌, ◌+◌, ◌≤◌, length};
 
 use fields::field::number_at;
-use libc::STDOUT_FILENO;
 use loading::numbers::numbers_of;
 use model::{JudgeAnswer, Refusal, SlacksAnswer};
+use reading::read_full;
 use resizing::judge::judge;
 use resizing::slacks::slacks;
+use std::io;
 
 // Bytes of the input, at most.
 const INPUT_BYTES: usize = 65536;
 
-fn print_number(n: u64) {
-    io::write_all(STDOUT_FILENO, b" ");
-    io::print_decimal(STDOUT_FILENO, n);
+fn print_number(rt: &impl Print, n: u64) -> io::Result<()> {
+    print!(rt; " {n}")
 }
 
 // Prints a slack, or that it is below 0.
-fn print_slack(x: i32) {
+fn print_slack(rt: &impl Print, x: i32) -> io::Result<()> {
     if x < 0 {
-        io::write_all(STDOUT_FILENO, b" late");
+        print!(rt; " late")
     } else {
-        print_number(x as u64);
+        print_number(rt, x as u64)
     }
 }
 
-fn end_line() {
-    io::write_all(STDOUT_FILENO, b"\n");
+fn end_line(rt: &impl Print) -> io::Result<()> {
+    println!(rt)
 }
 
 // A refusal's number and place.
-fn print_refusal(refusal: Refusal) {
+fn print_refusal(rt: &impl Print, refusal: Refusal) -> io::Result<()> {
     let numbers = numbers_of(refusal);
-    io::write_all(STDOUT_FILENO, b" refused");
-    print_number(numbers.number as u64);
-    print_number(numbers.place as u64);
+    print!(rt; " refused")?;
+    print_number(rt, numbers.number as u64)?;
+    print_number(rt, numbers.place as u64)
 }
 
 // Prints the elements of a slice.
-fn print_slacks(xs: &[i32]) {
-    let mut i = 0;
-    while i < xs.len() {
-        print_slack(xs[i]);
-        i += 1;
+fn print_slacks(rt: &impl Print, xs: &[i32]) -> io::Result<()> {
+    for x in xs {
+        print_slack(rt, *x)?;
     }
+    Ok(())
 }
 
-fn print_slacks_answer(answer: SlacksAnswer) {
-    io::write_all(STDOUT_FILENO, b"slacks");
+fn print_slacks_answer(rt: &impl Print, answer: SlacksAnswer) -> io::Result<()> {
+    print!(rt; "slacks")?;
     match answer {
-        SlacksAnswer::Refused(refusal) => print_refusal(refusal),
-        SlacksAnswer::Given { gates } => print_number(gates as u64),
+        SlacksAnswer::Refused(refusal) => print_refusal(rt, refusal)?,
+        SlacksAnswer::Given { gates } => print_number(rt, gates as u64)?,
     }
-    io::write_all(STDOUT_FILENO, b" :");
+    print!(rt; " :")
 }
 
 // The slacks, to six elements that are 77777 before, and to three.
-fn run_slacks(file: &[u8]) {
+fn run_slacks(rt: &impl Print, file: &[u8]) -> io::Result<()> {
     let mut out = [77777i32; 6];
     let answer = slacks(file, &mut out);
-    print_slacks_answer(answer);
-    print_slacks(&out);
-    end_line();
+    print_slacks_answer(rt, answer)?;
+    print_slacks(rt, &out)?;
+    end_line(rt)?;
     let mut short = [77777i32; 3];
     let answer = slacks(file, &mut short);
-    print_slacks_answer(answer);
-    print_slacks(&short);
-    end_line();
+    print_slacks_answer(rt, answer)?;
+    print_slacks(rt, &short)?;
+    end_line(rt)
 }
 
-fn print_judge_answer(answer: JudgeAnswer) {
-    io::write_all(STDOUT_FILENO, b"judge");
+fn print_judge_answer(rt: &impl Print, answer: JudgeAnswer) -> io::Result<()> {
+    print!(rt; "judge")?;
     match answer {
-        JudgeAnswer::Refused(refusal) => print_refusal(refusal),
-        JudgeAnswer::Accepted { saving } => print_number(saving),
+        JudgeAnswer::Refused(refusal) => print_refusal(rt, refusal)?,
+        JudgeAnswer::Accepted { saving } => print_number(rt, saving)?,
     }
-    end_line();
+    end_line(rt)
 }
 
 // The number of four bytes, high byte first, at a place.
@@ -89,7 +88,7 @@ fn four_bytes(s: &[u8], at: usize) -> u32
 }
 
 // The verdict on the four increases of a record, and on the first three alone.
-fn run_judge(file: &[u8], case: &[u8])
+fn run_judge(rt: &impl Print, file: &[u8], case: &[u8]) -> io::Result<()>
     requires { length case.now ≡ 18 }
 {
     let a = four_bytes(case, 2);
@@ -97,28 +96,27 @@ fn run_judge(file: &[u8], case: &[u8])
     let c = four_bytes(case, 10);
     let d = four_bytes(case, 14);
     let increases = [a, b, c, d];
-    print_judge_answer(judge(file, &increases));
+    print_judge_answer(rt, judge(file, &increases))?;
     let short = [a, b, c];
-    print_judge_answer(judge(file, &short));
+    print_judge_answer(rt, judge(file, &short))
 }
 
 // All records of an input.
-fn run_all(input: &[u8]) {
-    let mut at: usize = 0;
-    while at + 18 <= input.len() {
-        let from = at + 18;
-        let to = from + number_at(input, at) as usize;
-        if input.len() < to {
-            return;
-        }
-        run_slacks(&input[from..to]);
-        run_judge(&input[from..to], &input[at..from]);
-        at = to;
+fn run_all(rt: &impl Print, input: &[u8]) -> io::Result<()> {
+    let mut rest = input;
+    while let Some((case, after)) = rest.split_at_checked(18) {
+        let Some((file, next)) = after.split_at_checked(number_at(case, 0) as usize) else {
+            return Ok(());
+        };
+        run_slacks(rt, file)?;
+        run_judge(rt, file, case)?;
+        rest = next;
     }
+    Ok(())
 }
 
-fn main() {
+fn main(rt: HostRuntime) -> io::Result<()> {
     let mut input = [0u8; INPUT_BYTES];
-    let n = io::read_full(0, &mut input);
-    run_all(&input[..n]);
+    let n = read_full(&mut rt.stdin(), &mut input)?;
+    run_all(&rt, &input[..n])
 }

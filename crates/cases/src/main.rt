@@ -6,58 +6,59 @@ ghost use Rattle.std.specs.Prelude.{◌≡◌, ◌+◌, ◌*◌, ◌≤◌, leng
 ghost use Rattle.model.specs.Limits.{max_gates, max_pairs};
 
 use fields::field::{number_at, wide};
-use libc::STDOUT_FILENO;
 use loading::numbers::numbers_of;
 use model::limits::{MAX_BYTES, MAX_GATES, MAX_PAIRS};
 use model::{BestAnswer, CurveAnswer, JudgeAnswer, Refusal, SlacksAnswer, TicksAnswer};
+use reading::read_full;
 use resizing::best::best_increases;
 use resizing::curve::curve;
 use resizing::judge::judge;
 use resizing::slacks::slacks;
 use resizing::ticks::fewest_ticks;
+use std::io;
+use std::io::Read;
 
-fn end_line() {
-    io::write_all(STDOUT_FILENO, b"\n");
+fn end_line(rt: &impl Print) -> io::Result<()> {
+    println!(rt)
 }
 
-fn print_number(n: u64) {
-    io::write_all(STDOUT_FILENO, b" ");
-    io::print_decimal(STDOUT_FILENO, n);
+fn print_number(rt: &impl Print, n: u64) -> io::Result<()> {
+    print!(rt; " {n}")
 }
 
-fn print_u32(x: u32) {
-    print_number(x as u64);
+fn print_u32(rt: &impl Print, x: u32) -> io::Result<()> {
+    print_number(rt, x as u64)
 }
 
 // How far a number is below 0.
 fn below_zero(x: i32) -> u64 {
-    if x < 0 { (-1 - x) as u64 + 1 } else { 0 }
+    if x < 0 { x.unsigned_abs() as u64 } else { 0 }
 }
 
 // A slack, with a minus sign in front of a negative one.
-fn print_slack(x: i32) {
+fn print_slack(rt: &impl Print, x: i32) -> io::Result<()> {
     if x < 0 {
-        io::write_all(STDOUT_FILENO, b" -");
-        io::print_decimal(STDOUT_FILENO, below_zero(x));
+        let below = below_zero(x);
+        print!(rt; " -{below}")
     } else {
-        print_number(x as u64);
+        print_number(rt, x as u64)
     }
 }
 
 // A refusal on a line of its own call.
-fn print_refused(refusal: Refusal) {
+fn print_refused(rt: &impl Print, refusal: Refusal) -> io::Result<()> {
     let refused = numbers_of(refusal);
-    io::write_all(STDOUT_FILENO, b" refused");
-    print_number(refused.number as u64);
-    print_number(refused.place as u64);
+    print!(rt; " refused")?;
+    print_number(rt, refused.number as u64)?;
+    print_number(rt, refused.place as u64)
 }
 
 // A refusal among other answers.
-fn print_refusal(refusal: Refusal) {
+fn print_refusal(rt: &impl Print, refusal: Refusal) -> io::Result<()> {
     let refused = numbers_of(refusal);
-    print_number(refused.number as u64);
-    io::write_all(STDOUT_FILENO, b":");
-    io::print_decimal(STDOUT_FILENO, refused.place as u64);
+    print_number(rt, refused.number as u64)?;
+    let place = refused.place;
+    print!(rt; ":{place}")
 }
 
 const MARK: u32 = 2863311530;
@@ -77,26 +78,12 @@ const WANTED_BYTES: usize = 8 * 8;
 
 // Whether every element from a place on holds the mark.
 fn marked_from(xs: &[u32], from: usize) -> bool {
-    let mut i = from;
-    while i < xs.len() {
-        if xs[i] != MARK {
-            return false;
-        }
-        i += 1;
-    }
-    true
+    xs.iter().skip(from).all(|x| *x == MARK)
 }
 
 // The same for gains.
 fn gains_marked_from(xs: &[u64], from: usize) -> bool {
-    let mut i = from;
-    while i < xs.len() {
-        if xs[i] != GAIN_MARK {
-            return false;
-        }
-        i += 1;
-    }
-    true
+    xs.iter().skip(from).all(|x| *x == GAIN_MARK)
 }
 
 // The same for widths and gains.
@@ -106,158 +93,134 @@ fn pairs_marked_from(widths: &[u32], gains: &[u64], from: usize) -> bool {
 
 // The same for slacks.
 fn slacks_marked_from(xs: &[i32], from: usize) -> bool {
-    let mut i = from;
-    while i < xs.len() {
-        if xs[i] != SLACK_MARK {
-            return false;
-        }
-        i += 1;
-    }
-    true
+    xs.iter().skip(from).all(|x| *x == SLACK_MARK)
 }
 
-fn print_kept(kept: bool) {
+fn print_kept(rt: &impl Print, kept: bool) -> io::Result<()> {
     if kept {
-        io::write_all(STDOUT_FILENO, b" kept");
+        print!(rt; " kept")?;
     } else {
-        io::write_all(STDOUT_FILENO, b" changed");
+        print!(rt; " changed")?;
     }
-    end_line();
+    end_line(rt)
 }
 
 // The first n slacks, or all that there are.
-fn print_slacks(xs: &[i32], n: usize) {
-    let mut i = 0;
-    while i < n {
-        if xs.len() <= i {
-            return;
-        }
-        print_slack(xs[i]);
-        i += 1;
+fn print_slacks(rt: &impl Print, xs: &[i32], n: usize) -> io::Result<()> {
+    for x in xs.iter().take(n) {
+        print_slack(rt, *x)?;
     }
+    Ok(())
 }
 
 // The first n increases, or all that there are.
-fn print_increases(xs: &[u32], n: usize) {
-    let mut i = 0;
-    while i < n {
-        if xs.len() <= i {
-            return;
-        }
-        print_u32(xs[i]);
-        i += 1;
+fn print_increases(rt: &impl Print, xs: &[u32], n: usize) -> io::Result<()> {
+    for x in xs.iter().take(n) {
+        print_u32(rt, *x)?;
     }
+    Ok(())
 }
 
 // The first n pairs, or all that there are.
-fn print_pairs(widths: &[u32], gains: &[u64], n: usize) {
-    let mut i = 0;
-    while i < n {
-        if widths.len() <= i {
-            return;
-        }
-        if gains.len() <= i {
-            return;
-        }
-        print_u32(widths[i]);
-        print_number(gains[i]);
-        i += 1;
+fn print_pairs(rt: &impl Print, widths: &[u32], gains: &[u64], n: usize) -> io::Result<()> {
+    for (width, gain) in widths.iter().zip(gains.iter()).take(n) {
+        print_u32(rt, *width)?;
+        print_number(rt, *gain)?;
     }
+    Ok(())
 }
 
 // Zeros in every element.
 fn clear(list: &mut [u32]) {
-    let mut i = 0;
-    while i < list.len() {
-        list[i] = 0;
-        i += 1;
-    }
+    list.fill(0);
 }
 
 // The slacks, with the front of an array of marks lent. Answers the number of gates, 0 for a refusal.
-fn lend_slacks(file: &[u8], lent: usize, out: &mut [i32]) -> usize
+fn lend_slacks(rt: &impl Print, file: &[u8], lent: usize, out: &mut [i32]) -> io::Result<usize>
     requires { lent ≤ length out.old }
 {
     let answer = slacks(file, &mut out[..lent]);
-    io::write_all(STDOUT_FILENO, b"slacks");
+    print!(rt; "slacks")?;
     match answer {
         SlacksAnswer::Refused(refusal) => {
-            print_refused(refusal);
-            print_kept(slacks_marked_from(out, 0));
-            0
+            print_refused(rt, refusal)?;
+            print_kept(rt, slacks_marked_from(out, 0))?;
+            Ok(0)
         }
         SlacksAnswer::Given { gates } => {
-            print_slacks(out, gates);
-            print_kept(slacks_marked_from(out, gates));
-            gates
+            print_slacks(rt, out, gates)?;
+            print_kept(rt, slacks_marked_from(out, gates))?;
+            Ok(gates)
         }
     }
 }
 
 // The slacks, with so many elements lent. Answers the number of gates, 0 for a refusal.
-fn run_slacks(file: &[u8], lent: usize) -> usize
+fn run_slacks(rt: &impl Print, file: &[u8], lent: usize) -> io::Result<usize>
     requires { lent ≤ max_gates + 4 }
 {
     let mut out = [SLACK_MARK; LENT];
-    lend_slacks(file, lent, &mut out)
+    lend_slacks(rt, file, lent, &mut out)
 }
 
 // The curve, with the fronts of two arrays of marks lent.
 fn lend_curve(
+    rt: &impl Print,
     file: &[u8],
     lent_widths: usize,
     lent_gains: usize,
     widths: &mut [u32],
     gains: &mut [u64],
-)
+) -> io::Result<()>
     requires { (lent_widths ≤ length widths.old) × (lent_gains ≤ length gains.old) }
 {
     let answer = curve(file, &mut widths[..lent_widths], &mut gains[..lent_gains]);
-    io::write_all(STDOUT_FILENO, b"curve");
+    print!(rt; "curve")?;
     match answer {
         CurveAnswer::Refused(refusal) => {
-            print_refused(refusal);
-            print_kept(pairs_marked_from(widths, gains, 0));
+            print_refused(rt, refusal)?;
+            print_kept(rt, pairs_marked_from(widths, gains, 0))
         }
         CurveAnswer::Given {
             start,
             at_start,
             pairs,
         } => {
-            print_u32(start);
-            print_number(at_start);
-            print_number(pairs as u64);
-            print_pairs(widths, gains, pairs);
-            print_kept(pairs_marked_from(widths, gains, pairs));
+            print_u32(rt, start)?;
+            print_number(rt, at_start)?;
+            print_number(rt, pairs as u64)?;
+            print_pairs(rt, widths, gains, pairs)?;
+            print_kept(rt, pairs_marked_from(widths, gains, pairs))
         }
     }
 }
 
 // The curve, with so many elements lent for widths and for gains.
-fn run_curve(file: &[u8], lent_widths: usize, lent_gains: usize)
+fn run_curve(rt: &impl Print, file: &[u8], lent_widths: usize, lent_gains: usize) -> io::Result<()>
     requires { (lent_widths ≤ max_pairs + 8) × (lent_gains ≤ max_pairs + 8) }
 {
     let mut widths = [MARK; LENT_PAIRS];
     let mut gains = [GAIN_MARK; LENT_PAIRS];
-    lend_curve(file, lent_widths, lent_gains, &mut widths, &mut gains);
+    lend_curve(rt, file, lent_widths, lent_gains, &mut widths, &mut gains)
 }
 
 // The best increases, with the front of an array of marks lent. The array then holds zeros for a refusal.
-fn lend_best(file: &[u8], lent: usize, list: &mut [u32])
+fn lend_best(rt: &impl Print, file: &[u8], lent: usize, list: &mut [u32]) -> io::Result<()>
     requires { lent ≤ length list.old }
 {
     let answer = best_increases(file, &mut list[..lent]);
-    io::write_all(STDOUT_FILENO, b"best");
+    print!(rt; "best")?;
     match answer {
         BestAnswer::Refused(refusal) => {
-            print_refused(refusal);
-            print_kept(marked_from(list, 0));
+            print_refused(rt, refusal)?;
+            print_kept(rt, marked_from(list, 0))?;
             clear(list);
+            Ok(())
         }
         BestAnswer::Given { saving, gates } => {
-            print_number(saving);
-            print_increases(list, gates);
-            print_kept(marked_from(list, gates));
+            print_number(rt, saving)?;
+            print_increases(rt, list, gates)?;
+            print_kept(rt, marked_from(list, gates))
         }
     }
 }
@@ -277,84 +240,94 @@ fn eight_bytes(s: &[u8], at: usize) -> u64
 }
 
 // The fewest ticks for one wanted saving.
-fn print_fewest(file: &[u8], wanted: u64) {
+fn print_fewest(rt: &impl Print, file: &[u8], wanted: u64) -> io::Result<()> {
     let answer = fewest_ticks(file, wanted);
     match answer {
-        TicksAnswer::Refused(refusal) => print_refusal(refusal),
-        TicksAnswer::Given { ticks } => print_u32(ticks),
+        TicksAnswer::Refused(refusal) => print_refusal(rt, refusal),
+        TicksAnswer::Given { ticks } => print_u32(rt, ticks),
     }
 }
 
 // The fewest ticks for each wanted saving, of eight bytes, on one line.
-fn print_ticks(file: &[u8], wanted: &[u8])
+fn print_ticks(rt: &impl Print, file: &[u8], wanted: &[u8]) -> io::Result<()>
     requires { length wanted.now ≤ 8 * 8 }
 {
-    io::write_all(STDOUT_FILENO, b"ticks");
-    let mut at = 0;
-    while at + 8 <= wanted.len() {
-        print_fewest(file, eight_bytes(wanted, at));
-        at += 8;
+    print!(rt; "ticks")?;
+    for saving in wanted.chunks_exact(8) {
+        print_fewest(rt, file, eight_bytes(saving, 0))?;
     }
-    end_line();
+    end_line(rt)
 }
 
 // The verdict on a list, on a line of its own.
-fn print_judgement(file: &[u8], list: &[u32]) {
-    io::write_all(STDOUT_FILENO, b"judge");
+fn print_judgement(rt: &impl Print, file: &[u8], list: &[u32]) -> io::Result<()> {
+    print!(rt; "judge")?;
     let answer = judge(file, list);
     match answer {
-        JudgeAnswer::Refused(refusal) => print_refused(refusal),
-        JudgeAnswer::Accepted { saving } => print_number(saving),
+        JudgeAnswer::Refused(refusal) => print_refused(rt, refusal)?,
+        JudgeAnswer::Accepted { saving } => print_number(rt, saving)?,
     }
-    end_line();
+    end_line(rt)
 }
 
 // The verdict on the list with another increase at a gate. The list is as before afterwards.
-fn print_with(file: &[u8], gate: usize, increase: u32, list: &mut [u32]) {
+fn print_with(
+    rt: &impl Print,
+    file: &[u8],
+    gate: usize,
+    increase: u32,
+    list: &mut [u32],
+) -> io::Result<()> {
     if list.len() <= gate {
-        return;
+        return Ok(());
     }
     let held = list[gate];
     list[gate] = increase;
     let answer = judge(file, list);
     list[gate] = held;
     match answer {
-        JudgeAnswer::Refused(refusal) => print_refusal(refusal),
-        JudgeAnswer::Accepted { saving } => print_number(saving),
+        JudgeAnswer::Refused(refusal) => print_refusal(rt, refusal),
+        JudgeAnswer::Accepted { saving } => print_number(rt, saving),
     }
 }
 
 // The verdict on the list with one tick more at a gate.
-fn print_one_more(file: &[u8], gate: usize, list: &mut [u32]) {
+fn print_one_more(rt: &impl Print, file: &[u8], gate: usize, list: &mut [u32]) -> io::Result<()> {
     if gate < list.len() {
-        print_with(file, gate, std::num::wrapping_add_u32(list[gate], 1), list);
+        print_with(rt, file, gate, list[gate].wrapping_add(1), list)?;
     }
+    Ok(())
 }
 
 // The verdicts on the list with one tick more at each gate.
-fn print_more(file: &[u8], gates: usize, list: &mut [u32]) {
-    io::write_all(STDOUT_FILENO, b"more");
-    let mut g = 0;
-    while g < gates {
-        print_one_more(file, g, list);
-        g += 1;
+fn print_more(rt: &impl Print, file: &[u8], gates: usize, list: &mut [u32]) -> io::Result<()> {
+    print!(rt; "more")?;
+    for g in 0..gates {
+        print_one_more(rt, file, g, list)?;
     }
-    end_line();
+    end_line(rt)
 }
 
 // The verdict on the list in hand; where the block has gates, also those on lists with one tick more at each gate, and with `beyond` and the largest number at one gate.
-fn print_judgements(file: &[u8], gates: usize, gate: usize, beyond: u32, list: &mut [u32]) {
-    print_judgement(file, list);
+fn print_judgements(
+    rt: &impl Print,
+    file: &[u8],
+    gates: usize,
+    gate: usize,
+    beyond: u32,
+    list: &mut [u32],
+) -> io::Result<()> {
+    print_judgement(rt, file, list)?;
     if gates == 0 {
-        return;
+        return Ok(());
     }
-    print_more(file, gates, list);
-    io::write_all(STDOUT_FILENO, b"beyond");
-    print_with(file, gate, beyond, list);
-    end_line();
-    io::write_all(STDOUT_FILENO, b"largest");
-    print_with(file, gate, 4294967295, list);
-    end_line();
+    print_more(rt, file, gates, list)?;
+    print!(rt; "beyond")?;
+    print_with(rt, file, gate, beyond, list)?;
+    end_line(rt)?;
+    print!(rt; "largest")?;
+    print_with(rt, file, gate, 4294967295, list)?;
+    end_line(rt)
 }
 
 // The smaller of two numbers.
@@ -366,6 +339,7 @@ fn smaller(a: usize, b: usize) -> usize
 
 // The best increases, to an array of marks; the fewest ticks; and the judging of the increases and of lists that differ from them at one gate.
 fn run_list(
+    rt: &impl Print,
     file: &[u8],
     wanted: &[u8],
     lent: usize,
@@ -373,73 +347,86 @@ fn run_list(
     gate: usize,
     beyond: u32,
     list: &mut [u32],
-)
+) -> io::Result<()>
     requires { (lent ≤ length list.old) × (length wanted.now ≤ 8 * 8) }
 {
-    lend_best(file, lent, list);
-    print_ticks(file, wanted);
-    print_judgements(file, gates, gate, beyond, &mut list[..lent]);
+    lend_best(rt, file, lent, list)?;
+    print_ticks(rt, file, wanted)?;
+    print_judgements(rt, file, gates, gate, beyond, &mut list[..lent])
 }
 
 // One record: a head of 13 bytes, the wanted savings, and a block file.
-fn run_case(number: u64, head: &[u8], wanted: &[u8], file: &[u8])
+fn run_case(rt: &impl Print, number: u64, head: &[u8], wanted: &[u8], file: &[u8]) -> io::Result<()>
     requires { (length head.now ≡ 13) × (length wanted.now ≤ 8 * 8) }
 {
-    io::write_all(STDOUT_FILENO, b"case");
-    print_number(number);
-    end_line();
+    print!(rt; "case")?;
+    print_number(rt, number)?;
+    end_line(rt)?;
     let lent = smaller(wide(head[2]) as usize, LENT);
     let lent_widths = smaller(number_at(head, 3) as usize, LENT_PAIRS);
     let lent_gains = smaller(number_at(head, 5) as usize, LENT_PAIRS);
     let gate = wide(head[7]) as usize;
     let beyond = four_bytes(head, 8);
-    let gates = run_slacks(file, lent);
-    run_curve(file, lent_widths, lent_gains);
+    let gates = run_slacks(rt, file, lent)?;
+    run_curve(rt, file, lent_widths, lent_gains)?;
     let mut list = [MARK; LENT];
-    run_list(file, wanted, lent, gates, gate, beyond, &mut list);
+    run_list(rt, file, wanted, lent, gates, gate, beyond, &mut list)
 }
 
 // Reads a record's block file into `file` and runs the record, or answers false where the input ends.
-fn run_file(number: u64, head: &[u8], wanted: &[u8], file: &mut [u8]) -> bool
+fn run_file(
+    rt: &impl Print,
+    input: &mut impl Read,
+    number: u64,
+    head: &[u8],
+    wanted: &[u8],
+    file: &mut [u8],
+) -> io::Result<bool>
     requires { (length head.now ≡ 13) × (length wanted.now ≤ 8 * 8) }
 {
     let size = smaller(number_at(head, 0) as usize, file.len());
-    if io::read_full(0, &mut file[..size]) < size {
-        return false;
+    if read_full(input, &mut file[..size])? < size {
+        return Ok(false);
     }
-    run_case(number, head, wanted, &file[..size]);
-    true
+    run_case(rt, number, head, wanted, &file[..size])?;
+    Ok(true)
 }
 
 // Reads a record's wanted savings into `wanted`, which has room for eight, and runs the record, or answers false where the input ends.
-fn run_wanted(number: u64, head: &[u8], wanted: &mut [u8]) -> bool
+fn run_wanted(
+    rt: &impl Print,
+    input: &mut impl Read,
+    number: u64,
+    head: &[u8],
+    wanted: &mut [u8],
+) -> io::Result<bool>
     requires { (length head.now ≡ 13) × (length wanted.old ≡ 8 * 8) }
 {
     let size = smaller(wide(head[12]) as usize, 8) * 8;
-    if io::read_full(0, &mut wanted[..size]) < size {
-        return false;
+    if read_full(input, &mut wanted[..size])? < size {
+        return Ok(false);
     }
     let mut file = [0u8; MAX_BYTES];
-    run_file(number, head, &wanted[..size], &mut file)
+    run_file(rt, input, number, head, &wanted[..size], &mut file)
 }
 
 // Reads a record and runs it, or answers false where the input ends.
-fn run_next(number: u64) -> bool {
+fn run_next(rt: &impl Print, input: &mut impl Read, number: u64) -> io::Result<bool> {
     let mut head = [0u8; 13];
-    if io::read_full(0, &mut head) < 13 {
-        return false;
+    if read_full(input, &mut head)? < 13 {
+        return Ok(false);
     }
     let mut wanted = [0u8; WANTED_BYTES];
-    run_wanted(number, &head, &mut wanted)
+    run_wanted(rt, input, number, &head, &mut wanted)
 }
 
 // At most a million records.
-fn main() {
-    let mut number: u64 = 0;
-    while number < 1000000 {
-        if !run_next(number) {
-            return;
+fn main(rt: HostRuntime) -> io::Result<()> {
+    let mut input = rt.stdin();
+    for number in 0..1000000 {
+        if !run_next(&rt, &mut input, number)? {
+            return Ok(());
         }
-        number += 1;
     }
+    Ok(())
 }

@@ -7,7 +7,8 @@ ghost use Rattle.std.specs.Prelude.{◌≡◌, length};
 
 use decimal::{digit_count, write_digits};
 use fields::field::number_at;
-use libc::STDOUT_FILENO;
+use reading::read_full;
+use std::io;
 
 // Bytes of the input, at most.
 const INPUT_BYTES: usize = 8192;
@@ -22,50 +23,42 @@ const TEXT_BYTES: usize = 32;
 fn eight_bytes(s: &[u8]) -> u64
     requires { length s.now ≡ 12 }
 {
-    let mut n: u64 = 0;
-    let mut i = 0;
-    while i < 8 {
-        n = 256 * n + s[i] as u64;
-        i += 1;
-    }
-    n
+    u64::from_be_bytes([s[0], s[1], s[2], s[3], s[4], s[5], s[6], s[7]])
 }
 
 // Prints a number and a blank.
-fn print_number(n: usize) {
-    io::print_decimal(STDOUT_FILENO, n as u64);
-    io::write_all(STDOUT_FILENO, b" ");
+fn print_number(rt: &impl Print, n: usize) -> io::Result<()> {
+    print!(rt; "{n} ")
 }
 
 // One case.
-fn run_case(case: &[u8])
+fn run_case(rt: &impl Print, case: &[u8]) -> io::Result<()>
     requires { length case.now ≡ 12 }
 {
     let n = eight_bytes(case);
     let at = number_at(case, 8) as usize;
     let lent = number_at(case, 10) as usize;
     if TEXT_BYTES < lent {
-        return;
+        return Ok(());
     }
     let mut text = [46u8; TEXT_BYTES];
     let next = write_digits(n, &mut text[..lent], at);
-    print_number(digit_count(n));
-    print_number(next);
-    io::write_all(STDOUT_FILENO, &text);
-    io::write_all(STDOUT_FILENO, b"\n");
+    print_number(rt, digit_count(n))?;
+    print_number(rt, next)?;
+    rt.write_all(&text)?;
+    rt.write_all(b"\n")
 }
 
 // All cases of an input.
-fn run_all(input: &[u8]) {
-    let mut at: usize = 0;
-    while at + CASE_BYTES <= input.len() {
-        run_case(&input[at..at + CASE_BYTES]);
-        at += CASE_BYTES;
+fn run_all(rt: &impl Print, input: &[u8]) -> io::Result<()> {
+    for case in input.chunks_exact(CASE_BYTES) {
+        run_case(rt, case)?;
     }
+    Ok(())
 }
 
-fn main() {
+fn main(rt: HostRuntime) -> io::Result<()> {
     let mut input = [0u8; INPUT_BYTES];
-    let n = io::read_full(0, &mut input);
-    run_all(&input[..n]);
+    let n = read_full(&mut rt.stdin(), &mut input)?;
+    run_all(&rt, &input[..n])
 }

@@ -1,14 +1,15 @@
 // Prints the best increases of the block file on standard input, of which the first MAX_BYTES bytes decide.
 #![tactic(auto)]
 
-use libc::{STDIN_FILENO, STDOUT_FILENO};
 use model::limits::MAX_BYTES;
 use printing::{PRINTOUT_BYTES, printout};
+use reading::read_full;
+use std::io;
 
-fn main() {
+fn main(rt: HostRuntime) -> io::Result<()> {
     let mut file = [0u8; MAX_BYTES];
-    let n = io::read_full(STDIN_FILENO, &mut file);
+    let n = read_full(&mut rt.stdin(), &mut file)?;
     let mut text = [0u8; PRINTOUT_BYTES];
     let length = printout(&file[..n], &mut text);
-    io::write_all(STDOUT_FILENO, &text[..length]);
+    rt.write_all(&text[..length])
 }
