@@ -1,16 +1,19 @@
 #!/usr/bin/env python3
 """Spells the repository's own definitions and lemmas in snake case: gate-count becomes gate_count.
 
-usage: python3 tools/snake_names.py [--docs]     at the top of the repository
+usage: python3 tools/snake_names.py                 at the top of the repository
+       python3 tools/snake_names.py --docs COMMIT   the same of README.md, docs/ and host/, by the names that stood in COMMIT
 
 Reads crates/*/specs and crates/*/proofs, and rewrites them, the contracts in crates/*/src and the must-fail edits in place.
-With --docs it rewrites what stands between backticks in README.md, docs/ and host/*.md too.
+With --docs it rewrites what stands between backticks, in pages alone.
 Names that come from the kit's libraries keep their dashes, as do those that Rattle makes in proofs/F/ (returns-2, loop-i-preserved).
 Comments keep their words, but for what stands between backticks.
 """
 import os
 import re
+import subprocess
 import sys
+import tempfile
 
 TOKEN = re.compile(r"[^\s(){}\[\];,.\"`«»@]+")
 PROOF = ("Proof.antt", "Answers.antt", "Invariants.antt")
@@ -73,30 +76,41 @@ def turned(own, text, mark):
     return "\n".join(lines)
 
 
+def pages(root):
+    yield os.path.join(root, "README.md")
+    for top in ("docs", "host"):
+        for folder, _, names in os.walk(os.path.join(root, top)):
+            yield from (os.path.join(folder, n) for n in sorted(names) if n.endswith(".md"))
+
+
+def rewrite(path, turn):
+    with open(path, encoding="utf-8") as f:
+        text = f.read()
+    new = turn(text)
+    if new != text:
+        with open(path, "w", encoding="utf-8") as f:
+            f.write(new)
+
+
+def names_of(commit):
+    with tempfile.TemporaryDirectory() as folder:
+        archive = subprocess.run(["git", "archive", commit, "crates"], stdout=subprocess.PIPE, check=True).stdout
+        subprocess.run(["tar", "-x", "-C", folder], input=archive, check=True)
+        return gather(folder)
+
+
 def main(argv):
     root = os.getcwd()
-    own = gather(root)
-    if argv == ["--list"]:
-        print("\n".join(sorted(own)))
+    if argv[:1] == ["--docs"]:
+        own = names_of(argv[1])
+        for path in pages(root):
+            rewrite(path, lambda text: in_ticks(own, text))
         return 0
-    for path in files(root, ".antt", ".rt", ".edit"):
-        with open(path, encoding="utf-8") as f:
-            text = f.read()
-        if path.endswith(".edit"):
-            new = "\n".join(snake(own, l) if l.startswith(("old:", "new:")) else in_ticks(own, l) for l in text.split("\n"))
-        else:
-            new = turned(own, text, "--" if path.endswith(".antt") else "//")
-        if new != text:
-            with open(path, "w", encoding="utf-8") as f:
-                f.write(new)
-    if "--docs" in argv:
-        for top in ("README.md", "docs", "host"):
-            paths = [top] if os.path.isfile(top) else [os.path.join(d, n) for d, _, ns in os.walk(top) for n in ns if n.endswith(".md")]
-            for path in paths:
-                with open(path, encoding="utf-8") as f:
-                    text = f.read()
-                with open(path, "w", encoding="utf-8") as f:
-                    f.write(in_ticks(own, text))
+    own = gather(root)
+    for path in files(root, ".antt", ".rt"):
+        rewrite(path, lambda text: turned(own, text, "--" if path.endswith(".antt") else "//"))
+    for path in files(root, ".edit"):
+        rewrite(path, lambda text: "\n".join(snake(own, l) if l.startswith(("old:", "new:")) else in_ticks(own, l) for l in text.split("\n")))
     return 0
 
 
