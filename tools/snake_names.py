@@ -61,7 +61,8 @@ def gather(root):
 
 
 def snake(own, text):
-    return TOKEN.sub(lambda m: m.group(0).replace("-", "_") if m.group(0) in own else m.group(0), text)
+    """The kit's getD is get_or today, in own names too."""
+    return TOKEN.sub(lambda m: m.group(0).replace("-", "_").replace("getD_", "get_or_") if m.group(0) in own else m.group(0), text)
 
 
 def in_ticks(own, text):

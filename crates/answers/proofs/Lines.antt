@@ -9,7 +9,7 @@ use lib.ListN.{length, get_or, drop, length-map, get_or-map}
 use lib.IntN.{pos}
 use lib.Signed.{◌<ℤ◌}
 use Rattle.lists.specs.Over.{over}
-use Rattle.lists.proofs.Over.{getD_over_front}
+use Rattle.lists.proofs.Over.{get_or_over_front}
 use Rattle.model.specs.Limits.{max_pairs, max_gain}
 use Rattle.model.specs.Block.{Block}
 use Rattle.model.specs.Part.{SeriesParallel}
@@ -81,5 +81,5 @@ curve_bounds {B} held {gs = gs} f = (omega (arith, f.count, pairs_short held), �
   where
     at : (i : ℕ) → i < length (pairs_of B (block_tree B held.fits)) → get_or (over (map (λ (p : Pair). p.gain) (pairs_of B (block_tree B held.fits))) gs) i 0 ≤ max_gain
     at i l =
-        rw (getD_over_front (map (λ (p : Pair). p.gain) (pairs_of B (block_tree B held.fits))) gs i 0 (rw length-map l), get_or-map (λ (p : Pair). p.gain) (pairs_of B (block_tree B held.fits)) i (record { width = 0; gain = 0 }))
+        rw (get_or_over_front (map (λ (p : Pair). p.gain) (pairs_of B (block_tree B held.fits))) gs i 0 (rw length-map l), get_or-map (λ (p : Pair). p.gain) (pairs_of B (block_tree B held.fits)) i (record { width = 0; gain = 0 }))
         (gains_few held _ (member (pairs_of B (block_tree B held.fits)) i (record { width = 0; gain = 0 }) l))

@@ -5,7 +5,7 @@ use mathlib.Core.List.{List}
 use Prim.Native.Nat.{ℕ, ◌<◌}
 use native.Mathlib.Omega.{arith}
 use lib.ListN.{get_or}
-use Rattle.lists.proofs.Over.{getD_build}
+use Rattle.lists.proofs.Over.{get_or_build}
 use Rattle.model.specs.Block.{Wire}
 use Rattle.model.specs.Part.{SeriesParallel}
 use Rattle.model.specs.Slack.{start}
@@ -36,7 +36,7 @@ module _ {file : List ℕ} {n m arrival deadline activity : ℕ} {G : GateArrays
       }
     where
       wire_is : (i : ℕ) → i < m → get_or (block h).wires i (record { source = 0; target = 0; delay = 0 }) ≡ wire_at W.sources W.targets W.delays i
-      wire_is i l = getD_build m (wire_at W.sources W.targets W.delays) i (record { source = 0; target = 0; delay = 0 }) l
+      wire_is i l = get_or_build m (wire_at W.sources W.targets W.delays) i (record { source = 0; target = 0; delay = 0 }) l
 
   pub given : Given (block h) n m W.sources W.targets W.delays
   given = record { limits = the_limits h; sound = h.well.network; wired = wires }

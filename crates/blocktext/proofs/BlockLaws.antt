@@ -8,7 +8,7 @@ use lib.IntN.{ℤ, pos}
 use lib.ListN.{length, get_or, take}
 use lib.Seq.{get_or-take}
 use Rattle.lists.specs.Over.{build, over}
-use Rattle.lists.proofs.Over.{length_build, getD_build, getD_over_front}
+use Rattle.lists.proofs.Over.{length_build, get_or_build, get_or_over_front}
 use Rattle.model.specs.Limits.{max_gates}
 use Rattle.model.specs.Slack.{slack, start, spare}
 use Rattle.model.specs.Printout.{head_text, gate_texts, head_lines, gate_line, block_lines}
@@ -47,8 +47,8 @@ module _ {file : List ℕ} {n m arrival deadline activity : ℕ} {G : GateArrays
     slack_at : (g : ℕ) → g < n → slack (block h) g ≡ get_or slacks g (pos 0)
     slack_at g l =
         sym (ap (λ (s : List ℤ). get_or s g (pos 0)) written
-        ∙ getD_over_front (build n (slack_in n m W.sources W.targets W.delays G.delays arrival deadline)) lent_out g (pos 0) (rw length_build l)
-        ∙ getD_build n (slack_in n m W.sources W.targets W.delays G.delays arrival deadline) g (pos 0) l
+        ∙ get_or_over_front (build n (slack_in n m W.sources W.targets W.delays G.delays arrival deadline)) lent_out g (pos 0) (rw length_build l)
+        ∙ get_or_build n (slack_in n m W.sources W.targets W.delays G.delays arrival deadline) g (pos 0) l
         ∙ slack_is h g l)
 
     -- .. so is the line of each gate ..

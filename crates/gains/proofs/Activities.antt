@@ -16,7 +16,7 @@ use borrow.Author.Tests.{eq-eqb, ne_eqb}
 use Rattle.lists.specs.Sum.{sum, total}
 use Rattle.lists.proofs.Sum.{sum_same}
 use Rattle.lists.specs.Over.{build, over}
-use Rattle.lists.proofs.Over.{getD_build, over_more}
+use Rattle.lists.proofs.Over.{get_or_build, over_more}
 use Rattle.model.specs.Limits.{max_activity}
 use Rattle.model.specs.Block.{Gate, Block, gate, no_gate}
 use Rattle.model.specs.Gain.{brings, input_activity}
@@ -134,7 +134,7 @@ module _ (B : Block) (n m : ℕ) (sources targets wire_delays delays activities 
   pub held_activity : (g : ℕ) → g < n → (gate B g).activity ≡ get_or activities g 0
   held_activity g h =
       ap (λ (gs : List Gate). (get_or gs g no_gate).activity) gates
-      ∙ ap (λ (x : Gate). x.activity) (getD_build n (gate_at delays activities counts step_widths drops) g no_gate h)
+      ∙ ap (λ (x : Gate). x.activity) (get_or_build n (gate_at delays activities counts step_widths drops) g no_gate h)
 
   brought_is : (g : ℕ) → brought_by m sources targets activities g ≡ total (brings B g) B.wires
   brought_is g =

@@ -13,7 +13,7 @@ use lib.Seq.{drop-cons, drop-length, get_or-take}
 use borrow.Author.Tests.{lt-ltb, le-ltb}
 use Rattle.lists.specs.Sum.{sum}
 use Rattle.lists.proofs.Sum.{sum_same}
-use Rattle.lists.proofs.Over.{length_build, getD_build}
+use Rattle.lists.proofs.Over.{length_build, get_or_build}
 use Rattle.lists.proofs.Compare.{le_or_lt}
 use Rattle.model.specs.Limits.{max_steps, max_width, max_drop}
 use Rattle.model.specs.Block.{Step, Block}
@@ -89,7 +89,7 @@ module _ (counts step_widths drops : List ℕ) (g activity increase : ℕ) where
       let s = step_at step_widths drops g j in
       let here : drop j steps ≡ s ∷ drop (j + 1) steps =
       drop-cons steps j s (rw length_build h)
-      ∙ rw (add-one j, getD_build (get_or counts g 0) (step_at step_widths drops g) j s h) in
+      ∙ rw (add-one j, get_or_build (get_or counts g 0) (step_at step_widths drops g) j s h) in
       let step : earned (drop j steps) activity left ≡ gained + earned (drop (j + 1) steps) activity (left - ticks) =
       ap (λ (ss : List Step). earned ss activity left) here ∙ rw (f, e, p) (earned_step s (drop (j + 1) steps) activity left) in
       omega arith

@@ -5,7 +5,7 @@ use mathlib.Core.List.{List}
 use Prim.Native.Nat.{ℕ, ◌*◌, ◌≤◌, ◌<◌}
 use native.Mathlib.Omega.{arith}
 use lib.ListN.{length, get_or}
-use Rattle.lists.proofs.Over.{length_build, getD_build}
+use Rattle.lists.proofs.Over.{length_build, get_or_build}
 use Rattle.model.specs.Limits.{max_steps}
 use Rattle.model.specs.Block.{Step, Gate, Block, gate, gate_count, no_gate, widths}
 use Rattle.model.specs.Arrays.{step_at, gate_at}
@@ -24,7 +24,7 @@ module _ (B : Block) (n : ℕ) (counts step_widths drops : List ℕ) (held : Hel
   pub held_steps : (g : ℕ) → g < n → (gate B g).steps ≡ steps_in counts step_widths drops g
   held_steps g h =
       ap (λ (gs : List Gate). (get_or gs g no_gate).steps) held.gates
-      ∙ ap (λ (x : Gate). x.steps) (getD_build n (gate_at held.delays held.activities counts step_widths drops) g no_gate h)
+      ∙ ap (λ (x : Gate). x.steps) (get_or_build n (gate_at held.delays held.activities counts step_widths drops) g no_gate h)
 
   pub held_widths : (g : ℕ) → g < n → widths (gate B g).steps ≡ widths_in counts step_widths g
   held_widths g h = ap widths (held_steps g h) ∙ widths_are counts step_widths drops g
@@ -32,7 +32,7 @@ module _ (B : Block) (n : ℕ) (counts step_widths drops : List ℕ) (held : Hel
   held_step : (g j : ℕ) → g < n → j < get_or counts g 0 → BlockLimits B → StepLimits (step_at step_widths drops g j)
   held_step g j h k limits =
       let s = step_at step_widths drops g j in
-      subst StepLimits (ap (λ (ss : List Step). get_or ss j s) (held_steps g h) ∙ getD_build (get_or counts g 0) (step_at step_widths drops g) j s k)
+      subst StepLimits (ap (λ (ss : List Step). get_or ss j s) (held_steps g h) ∙ get_or_build (get_or counts g 0) (step_at step_widths drops g) j s k)
       ((limits.gate_limits g).step_limits j s (rw (held_steps g h, length_build) k))
 
   -- the steps of a block within the limits are as small as is asked

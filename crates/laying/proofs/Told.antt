@@ -34,15 +34,15 @@ pub judged_told : {S : Type 0} {file : List ℕ} {lent after : S} {further : Blo
     → Judged file lent further (record { answer = told r.number r.place values; memory = after })
 judged_told x r values e h = rw (e, refusal_told x values) h
 
-getD_zeros : (n i : ℕ) → ◌≡◌ {A = ℕ} (get_or (replicate n 0) i 0) 0
-getD_zeros zero i = refl
-getD_zeros (suc n) zero = refl
-getD_zeros (suc n) (suc i) = getD_zeros n i
+get_or_zeros : (n i : ℕ) → ◌≡◌ {A = ℕ} (get_or (replicate n 0) i 0) 0
+get_or_zeros zero i = refl
+get_or_zeros (suc n) zero = refl
+get_or_zeros (suc n) (suc i) = get_or_zeros n i
 
 pub unsaid_zeros : (x : Refusal) (n : ℕ) → UnsaidZero (number_of x) (place_of x) (replicate n 0)
 unsaid_zeros x n =
     let (k, p, e) = refusal_numbered x in
-    subst (λ (a : Answer). UnsaidZero a.number (get_or a.values 0 0) (replicate n 0)) (sym e) (getD_zeros n)
+    subst (λ (a : Answer). UnsaidZero a.number (get_or a.values 0 0) (replicate n 0)) (sym e) (get_or_zeros n)
 
 -- Two answers that are equal are told in the same numbers, as many values each: what is unsaid is 0.
 pub told_unique : (k l p q : ℕ) (vs ws : List ℕ) → length vs ≡ length ws

@@ -5,7 +5,7 @@ use mathlib.Core.List.{List}
 use Prim.Native.Nat.{ℕ, ◌≤◌, ◌<◌}
 use native.Mathlib.Omega.{arith}
 use lib.ListN.{length, get_or}
-use Rattle.lists.proofs.Over.{length_build, getD_build}
+use Rattle.lists.proofs.Over.{length_build, get_or_build}
 use Rattle.model.specs.Limits.{max_delay, max_time}
 use Rattle.model.specs.Block.{Gate, Wire, Block, no_gate, gate, gate_count}
 use Rattle.model.specs.Arrays.{wire_at, gate_at}
@@ -32,7 +32,7 @@ module _ (file : List ℕ) (n m arrival deadline activity : ℕ) (G : GateArrays
   ends_below : (i : ℕ) → i < m → (get_or W.sources i 0 < n) × (get_or W.targets i 0 < n)
   ends_below i h =
       let d = wire_at W.sources W.targets W.delays 0 in
-      let is = getD_build m (wire_at W.sources W.targets W.delays) i d h in
+      let is = get_or_build m (wire_at W.sources W.targets W.delays) i d h in
       let l = limits.wire_limits i d (rw wires_are h) in (
         rw gates_are at (subst (λ (w : Wire). w.source < gate_count B) is l.source_below),
         rw gates_are at (subst (λ (w : Wire). w.target < gate_count B) is l.target_below),
@@ -57,7 +57,7 @@ module _ (file : List ℕ) (n m arrival deadline activity : ℕ) (G : GateArrays
 
   -- gate g, as the arrays have it
   pub gate_is : (g : ℕ) → g < n → gate B g ≡ gate_at G.delays G.activities G.counts G.step_widths G.drops g
-  gate_is g h = getD_build n (gate_at G.delays G.activities G.counts G.step_widths G.drops) g no_gate h
+  gate_is g h = get_or_build n (gate_at G.delays G.activities G.counts G.step_widths G.drops) g no_gate h
 
   pub delay_is : (g : ℕ) → g < n → (gate B g).delay ≡ get_or G.delays g 0
   delay_is g h = ap (λ (x : Gate). x.delay) (gate_is g h)
@@ -68,7 +68,7 @@ module _ (file : List ℕ) (n m arrival deadline activity : ℕ) (G : GateArrays
   pub wire_delay_most : (i : ℕ) → i < m → get_or W.delays i 0 ≤ max_time
   wire_delay_most i h =
       let d = wire_at W.sources W.targets W.delays 0 in
-      let is = getD_build m (wire_at W.sources W.targets W.delays) i d h in
+      let is = get_or_build m (wire_at W.sources W.targets W.delays) i d h in
       omega (arith, (limits.wire_limits i d (rw wires_are h)).delay_most, ap (λ (w : Wire). w.delay) is)
 
   pub arrival_most : arrival ≤ max_time

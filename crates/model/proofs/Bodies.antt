@@ -11,7 +11,7 @@ use lib.ListN.{length, get_or, drop, length-drop}
 use lib.Seq.{ext_get_or}
 use Rattle.lists.specs.Over.{build}
 use Rattle.lists.proofs.Bool.{and_left, and_right, and_both}
-use Rattle.lists.proofs.Over.{length_build, getD_build}
+use Rattle.lists.proofs.Over.{length_build, get_or_build}
 use Rattle.model.proofs.Fields.{number_two_bytes, two_bytes_number, Bytes}
 use Rattle.model.proofs.Steps.{step_at, steps_by_index}
 use Rattle.model.specs.Limits.{max_edition, max_steps}
@@ -94,7 +94,7 @@ gate_length_fits ed g h = steps_fit ed (length (gate_body g)) (length g.steps) (
 elements : (b : List ℕ) (n : ℕ) → length b ≡ n → b ≡ build n (λ (i : ℕ). get_or b i 0)
 elements b n e =
     ext_get_or 0 b (build n (λ (i : ℕ). get_or b i 0)) (e ∙ sym (length_build n (λ (i : ℕ). get_or b i 0)))
-    (λ (i : ℕ) (h : i < length b). sym (getD_build n (λ (j : ℕ). get_or b j 0) i 0 (omega arith)))
+    (λ (i : ℕ) (h : i < length b). sym (get_or_build n (λ (j : ℕ). get_or b j 0) i 0 (omega arith)))
 
 two_again : (b : List ℕ) (i : ℕ) → Bytes b → i + 1 < length b → two_bytes (256 * get_or b i 0 + get_or b (i + 1) 0) ≡ get_or b i 0 ∷ get_or b (i + 1) 0 ∷ []
 two_again b i bytes h = two_bytes_number (get_or b i 0) (get_or b (i + 1) 0) (bytes i (omega arith)) (bytes (i + 1) h)

@@ -34,17 +34,17 @@ pub low_byte : (n : ℕ) → n % 256 < 256
 low_byte n = omega arith
 
 -- what stands i places behind o
-pub getD_from : (s : List ℕ) (o i : ℕ) → get_or s (o + i) 0 ≡ get_or (drop o s) i 0
-getD_from s o i = sym (get_or-drop o s i 0)
+pub get_or_from : (s : List ℕ) (o i : ℕ) → get_or s (o + i) 0 ≡ get_or (drop o s) i 0
+get_or_from s o i = sym (get_or-drop o s i 0)
 
-pub getD_here : (s : List ℕ) (o : ℕ) → get_or s o 0 ≡ get_or (drop o s) 0 0
-getD_here s o = ap (λ (k : ℕ). get_or s k 0) (sym (add-zero o)) ∙ getD_from s o 0
+pub get_or_here : (s : List ℕ) (o : ℕ) → get_or s o 0 ≡ get_or (drop o s) 0 0
+get_or_here s o = ap (λ (k : ℕ). get_or s k 0) (sym (add-zero o)) ∙ get_or_from s o 0
 
 -- the announced length in terms of what is left from o on
 pub length_at_from : (s : List ℕ) (o : ℕ) → length_at s o ≡ 256 * get_or (drop o s) 1 0 + get_or (drop o s) 2 0
 length_at_from s o =
     let e : o + 1 + 1 ≡ o + 2 = omega arith in
-    ap₂ (λ (x y : ℕ). 256 * x + y) (getD_from s o 1) (ap (λ (k : ℕ). get_or s k 0) e ∙ getD_from s o 2)
+    ap₂ (λ (x y : ℕ). 256 * x + y) (get_or_from s o 1) (ap (λ (k : ℕ). get_or s k 0) e ∙ get_or_from s o 2)
 
 -- THE FIELD AT AN OFFSET, for code that reads it: the header is cut, the body is cut, the field is whole.
 pub header_cut : (s : List ℕ) (o : ℕ) → length s < body_from o → field_at s o ≡ NoHeader
@@ -109,7 +109,7 @@ body_between s o e = rw e
 -- A WHOLE FIELD that stands at o, with `back` behind it.
 module _ (s : List ℕ) (o tag : ℕ) (body back : List ℕ) (e : drop o s ≡ field tag body ++ back) where
   pub stands_tag : get_or s o 0 ≡ tag
-  stands_tag = getD_here s o ∙ rw e
+  stands_tag = get_or_here s o ∙ rw e
 
   pub stands_length : length_at s o ≡ length body
   stands_length = length_at_from s o ∙ rw e (number_two_bytes (length body) (body ++ back))

@@ -41,8 +41,8 @@ module _ (m : ℕ) where
       let none : scaled_gate m no_gate ≡ no_gate = ap (λ (d : ℕ). record { delay = d; activity = 0; steps = [] }) (omega (arith, mul-zero m)) in
       ap (get_or (scaled m B).gates g) (sym none) ∙ get_or-map (scaled_gate m) B.gates g no_gate
 
-  pub getD_scaled : (x : List ℕ) (g : ℕ) → get_or (scaled_list m x) g 0 ≡ m * get_or x g 0
-  getD_scaled x g = ap (get_or (scaled_list m x) g) (sym (mul-zero m)) ∙ get_or-map (λ (a : ℕ). m * a) x g 0
+  pub get_or_scaled : (x : List ℕ) (g : ℕ) → get_or (scaled_list m x) g 0 ≡ m * get_or x g 0
+  get_or_scaled x g = ap (get_or (scaled_list m x) g) (sym (mul-zero m)) ∙ get_or-map (λ (a : ℕ). m * a) x g 0
 
   widths_scaled : (ss : List Step) → widths (map (scaled_step m) ss) ≡ m * widths ss
   unfolding total
@@ -125,7 +125,7 @@ module _ (m : ℕ) where
   drawn_scaled B g = ap (λ (x : Gate). x.delay) (gate_scaled B g)
 
   slowed_scaled : (B : Block) (x : List ℕ) (g : ℕ) → slowed (scaled m B) (scaled_list m x) g ≡ m * slowed B x g
-  slowed_scaled B x g = omega (arith, drawn_scaled B g, getD_scaled x g, mul-add m (drawn B g) (get_or x g 0))
+  slowed_scaled B x g = omega (arith, drawn_scaled B g, get_or_scaled x g, mul-add m (drawn B g) (get_or x g 0))
 
   -- the same list in finer ticks, where paths that were timed well are timed well
   sizing_scaled : (B : Block) {ok well : ℕ → Type 0} (x : List ℕ) → ((t : ℕ) → ok t → well (m * t)) → Sizing B ok x → Sizing (scaled m B) well (scaled_list m x)
@@ -133,7 +133,7 @@ module _ (m : ℕ) where
       record {
         one_each = length-map x (λ (a : ℕ). m * a) ∙ s.one_each ∙ sym (count_scaled B);
         within_widths = λ g l.
-            rw (getD_scaled x g, gate_scaled B g, widths_scaled (gate B g).steps) (mul-le-mul_left m (s.within_widths g (rw (count_scaled B) at l)));
+            rw (get_or_scaled x g, gate_scaled B g, widths_scaled (gate B g).steps) (mul-le-mul_left m (s.within_widths g (rw (count_scaled B) at l)));
         paths = λ t p.
             let (u, path, lasts) = path_unscaled B.wires (slowed_scaled B x) (rw (count_scaled B) at p) in
             subst well (sym lasts) (still u (s.paths u path));

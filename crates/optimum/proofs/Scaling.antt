@@ -22,7 +22,7 @@ use Rattle.model.specs.Scale.{scaled_step, scaled_wire, scaled, scaled_list, wid
 use Rattle.model.proofs.Best.{best_unique, best_saving_unique}
 use Rattle.model.proofs.Curve.{curve_unique}
 use Rattle.model.proofs.Slack.{lasts_start}
-use Rattle.model.proofs.Scale.{count_scaled, gate_scaled, getD_scaled, Lies, inside, behind, lies, same_gains, joined_scaled, drawn_scaled, in_time_scaled, series_parallel_scaled, count_off_divided}
+use Rattle.model.proofs.Scale.{count_scaled, gate_scaled, get_or_scaled, Lies, inside, behind, lies, same_gains, joined_scaled, drawn_scaled, in_time_scaled, series_parallel_scaled, count_off_divided}
 use Rattle.optimum.specs.Tree.{Tree}
 use Rattle.optimum.specs.Head.{Heads}
 use Rattle.optimum.specs.Handout.{ticks, raise}
@@ -111,7 +111,7 @@ module _ (B : Block) (m : ℕ) where
   unfolding saving
   saving_scaled x =
       rw (count_scaled m B)
-      (sum_same (gate_count B) _ (λ (g : ℕ). sum (get_or x g 0) (gain B g) * m) (λ g l. rw (getD_scaled m x g) (ticks_gain g (get_or x g 0)))
+      (sum_same (gate_count B) _ (λ (g : ℕ). sum (get_or x g 0) (gain B g) * m) (λ g l. rw (get_or_scaled m x g) (ticks_gain g (get_or x g 0)))
       ∙ sum_mul (gate_count B) m (λ (g : ℕ). sum (get_or x g 0) (gain B g))
       ∙ mul_comm _ m)
 

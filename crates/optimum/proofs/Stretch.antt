@@ -11,7 +11,7 @@ use Rattle.lists.proofs.Bool.{cases}
 use Rattle.lists.proofs.Compare.{mul_max, mul_min}
 use Rattle.model.specs.Curve.{Pair}
 use Rattle.model.specs.Scale.{scaled_list, widened}
-use Rattle.model.proofs.Scale.{getD_scaled}
+use Rattle.model.proofs.Scale.{get_or_scaled}
 use Rattle.optimum.specs.Tree.{wire, series, parallel, Tree, St, zeros, longest}
 use Rattle.optimum.specs.Head.{Head, Heads, Item, left, gate, right, item, leads, turn, beside, best_of}
 use Rattle.optimum.specs.Handout.{head, give, ticks, raise}
@@ -69,7 +69,7 @@ module _ (m : ℕ) where
 
   pub read_times : (t : Tree) (x : List ℕ) → read (scale m t) (scaled_list m x) ≡ times m t (read t x)
   read_times (wire w) x = refl
-  read_times (series P g Q) x = rw (read_times P x, getD_scaled m x g, read_times Q x) refl
+  read_times (series P g Q) x = rw (read_times P x, get_or_scaled m x g, read_times Q x) refl
   read_times (parallel P Q) x = rw (read_times P x, read_times Q x) refl
 
   onto_widened : (p : Pair) (ps : List Pair) → onto (record { width = m * p.width; gain = p.gain }) (widened m ps) ≡ widened m (onto p ps)

@@ -8,7 +8,7 @@ use native.Mathlib.Omega.{arith}
 use lib.ListN.{length, get_or, set}
 use lib.Seq.{ext_get_or, get_or-set_other}
 use Rattle.lists.specs.Over.{build, over}
-use Rattle.lists.proofs.Over.{length_build, getD_build, length_over, getD_over_front, getD_over_behind}
+use Rattle.lists.proofs.Over.{length_build, get_or_build, length_over, get_or_over_front, get_or_over_behind}
 use Rattle.lists.proofs.Compare.{le_or_lt}
 use Rattle.ordering.specs.Order.{SameBeyond}
 
@@ -25,18 +25,18 @@ is_over xs before after room long front behind =
     ext_get_or 0 after (over xs before) (long ∙ sym (length_over xs before room)) (λ i h. at i (le_or_lt (length xs) i))
   where
     at : (i : ℕ) → (length xs ≤ i) ⊎ (i < length xs) → get_or after i 0 ≡ get_or (over xs before) i 0
-    at i (inl l) = behind i l ∙ sym (getD_over_behind xs before i 0 l)
-    at i (inr l) = front i l ∙ sym (getD_over_front xs before i 0 l)
+    at i (inl l) = behind i l ∙ sym (get_or_over_behind xs before i 0 l)
+    at i (inr l) = front i l ∙ sym (get_or_over_front xs before i 0 l)
 
 module _ (n : ℕ) (f : ℕ → ℕ) (before after : List ℕ) where
   pub front_at : after ≡ over (build n f) before → (g : ℕ) → g < n → get_or after g 0 ≡ f g
   front_at e g h =
       ap (λ (xs : List ℕ). get_or xs g 0) e
-      ∙ getD_over_front (build n f) before g 0 (rw length_build h)
-      ∙ getD_build n f g 0 h
+      ∙ get_or_over_front (build n f) before g 0 (rw length_build h)
+      ∙ get_or_build n f g 0 h
 
   pub front_beyond : after ≡ over (build n f) before → SameBeyond n before after
-  front_beyond e i h = ap (λ (xs : List ℕ). get_or xs i 0) e ∙ getD_over_behind (build n f) before i 0 (rw length_build h)
+  front_beyond e i h = ap (λ (xs : List ℕ). get_or xs i 0) e ∙ get_or_over_behind (build n f) before i 0 (rw length_build h)
 
   pub front_written : n ≤ length before
       → length after ≡ length before
@@ -46,5 +46,5 @@ module _ (n : ℕ) (f : ℕ → ℕ) (before after : List ℕ) where
   front_written room long front behind =
       let e = length_build n f in
       is_over (build n f) before after (omega arith) long
-      (λ i h. let l : i < n = omega arith in front i l ∙ sym (getD_build n f i 0 l))
+      (λ i h. let l : i < n = omega arith in front i l ∙ sym (get_or_build n f i 0 l))
       (λ i h. behind i (omega arith))

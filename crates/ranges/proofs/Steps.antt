@@ -12,7 +12,7 @@ use lib.ListN.{length, take, drop, length-drop}
 use lib.Seq.{take_all}
 use Rattle.lists.proofs.Bool.{and_left, and_right}
 use Rattle.lists.specs.Over.{build}
-use Rattle.lists.proofs.Over.{length_build, getD_build}
+use Rattle.lists.proofs.Over.{length_build, get_or_build}
 use Rattle.model.specs.File.{gate, length_fits, steps_in, every, step_in_range, falls}
 use Rattle.model.proofs.Every.{every_passes, every_fails}
 use Rattle.model.proofs.Steps.{steps_by_index, falls_passes, falls_fails}
@@ -29,7 +29,7 @@ module _ (b : List ℕ) (e : length b % 4 ≡ 0) where
   ranges_fail i h p =
       rw by_index
       (every_fails step_in_range (build (length b / 4) (step_of b)) i (step_of b 0) (rw (length_build (length b / 4) (step_of b)) h)
-      (rw (getD_build (length b / 4) (step_of b) i (step_of b 0) h) p))
+      (rw (get_or_build (length b / 4) (step_of b) i (step_of b 0) h) p))
 
   pub drops_pass : ((i : ℕ) → suc i < length b / 4 → (step_of b (suc i)).drop < (step_of b i).drop) → falls (steps_in b) ≡ true
   drops_pass p = rw by_index (falls_passes (length b / 4) (step_of b) p)

@@ -7,7 +7,7 @@ use native.Mathlib.Omega.{arith}
 use lib.ListN.{length, get_or, replicate, length-map, length-replicate, get_or-map}
 use lib.Seq.{ext_get_or}
 use Rattle.lists.specs.Over.{over}
-use Rattle.lists.proofs.Over.{length_build, getD_build, getD_over_front}
+use Rattle.lists.proofs.Over.{length_build, get_or_build, get_or_over_front}
 use Rattle.model.specs.declared.Refusal.{Refusal}
 use Rattle.model.specs.declared.CurveAnswer.{CurveAnswer}
 use Rattle.model.specs.declared.CurveAnswer.TheVariants.{Given, Refused}
@@ -30,11 +30,11 @@ pairs_read ps ws gs =
     ext_get_or no_pair (pairs_in (length ps) widths gains) ps long
     (λ i l.
     let below : i < length ps = omega arith in
-    getD_build (length ps) (pair_at widths gains) i no_pair below
+    get_or_build (length ps) (pair_at widths gains) i no_pair below
     ∙ (λ j.
     record {
-      width = (getD_over_front (map (λ (p : Pair). p.width) ps) ws i 0 (rw length-map below) ∙ get_or-map (λ (p : Pair). p.width) ps i no_pair) j;
-      gain = (getD_over_front (map (λ (p : Pair). p.gain) ps) gs i 0 (rw length-map below) ∙ get_or-map (λ (p : Pair). p.gain) ps i no_pair) j;
+      width = (get_or_over_front (map (λ (p : Pair). p.width) ps) ws i 0 (rw length-map below) ∙ get_or-map (λ (p : Pair). p.width) ps i no_pair) j;
+      gain = (get_or_over_front (map (λ (p : Pair). p.gain) ps) gs i 0 (rw length-map below) ∙ get_or-map (λ (p : Pair). p.gain) ps i no_pair) j;
     }))
 
 -- The curve of a well-formed file's series-parallel block.

@@ -8,7 +8,7 @@ use native.Mathlib.Nat.{min-eq_left, min-eq_right, le_of_lt}
 use native.Mathlib.Omega.{arith}
 use lib.ListN.{length, get_or, get_or-eq_default}
 use Rattle.lists.proofs.Compare.{le_or_lt}
-use Rattle.lists.proofs.Over.{length_build, getD_build}
+use Rattle.lists.proofs.Over.{length_build, get_or_build}
 use Rattle.model.specs.Curve.{Pair}
 use Rattle.saving_curve.specs.declared.position.Position.{Position}
 use Rattle.saving_curve.specs.declared.position.Taken.{Taken}
@@ -21,7 +21,7 @@ module _ (n : ℕ) (ws gs : List ℕ) (p : Position) where
   past_pairs k h = taken_past (pairs_in n ws gs) p k (rw length_build h)
 
   pub here_in : p.pair < n → here (pairs_in n ws gs) p ≡ pair_at ws gs p.pair
-  here_in h = getD_build n (pair_at ws gs) p.pair no_pair h
+  here_in h = get_or_build n (pair_at ws gs) p.pair no_pair h
 
   earns_nothing : (k : ℕ) {t : Taken} → (here (pairs_in n ws gs) p).gain ≡ 0 → Taking (pairs_in n ws gs) p k t → t.gain ≡ 0
   earns_nothing k e (past h) = refl

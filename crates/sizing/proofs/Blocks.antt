@@ -8,7 +8,7 @@ use native.Mathlib.Nat.{zero-mul}
 use native.Mathlib.Omega.{arith}
 use borrow.Author.Tests.{lt-ltb, le-ltb}
 use lib.ListN.{length, get_or}
-use Rattle.lists.proofs.Over.{length_build, getD_build}
+use Rattle.lists.proofs.Over.{length_build, get_or_build}
 use Rattle.lists.proofs.Compare.{le_or_lt}
 use Rattle.model.specs.Block.{Gate, Block, gate, gate_count, no_gate}
 use Rattle.model.specs.Gain.{drop_of, gain, input_activity}
@@ -46,7 +46,7 @@ module _ {B : Block} {n : ℕ} {delays activities counts step_widths drops input
 
   gate_is : (g : ℕ) → g < n → gate B g ≡ at g
   unfolding at
-  gate_is g l = ap (λ (gs : List Gate). get_or gs g no_gate) held.gates ∙ getD_build n at g no_gate l
+  gate_is g l = ap (λ (gs : List Gate). get_or gs g no_gate) held.gates ∙ get_or_build n at g no_gate l
 
   no_gate_there : (g : ℕ) → n ≤ g → gate B g ≡ no_gate
   no_gate_there g l = beyond B.gates no_gate g (omega (arith, as_many))

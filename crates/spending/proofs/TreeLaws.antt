@@ -9,7 +9,7 @@ use lib.ListN.{length, get_or, replicate, length-map, length-replicate, get_or-m
 use Rattle.lists.specs.Sum.{sum}
 use Rattle.lists.specs.Over.{over}
 use Rattle.lists.proofs.Sum.{sum_same, sum_le}
-use Rattle.lists.proofs.Over.{length_build, getD_build}
+use Rattle.lists.proofs.Over.{length_build, get_or_build}
 use Rattle.model.specs.Limits.{max_gates, max_steps, max_width, max_pairs}
 use Rattle.model.specs.Block.{Block, gate, gate_count}
 use Rattle.model.specs.Gain.{saving}
@@ -177,7 +177,7 @@ module _ {B : Block} {n : ℕ} {A : TreeArrays} (h : TreeHeld B n A) where
         as_long = length-map (pairs_of B tree) f ∙ sym pair_count
 
         here : (i : ℕ) → i < r.pairs → get_or (pairs_of B tree) i (pair 0 0) ≡ pair (get_or ws' i 0) (get_or gs' i 0)
-        here i l = rw all_pairs at (getD_build r.pairs (λ (j : ℕ). pair (get_or ws' j 0) (get_or gs' j 0)) i (pair 0 0) l)
+        here i l = rw all_pairs at (get_or_build r.pairs (λ (j : ℕ). pair (get_or ws' j 0) (get_or gs' j 0)) i (pair 0 0) l)
 
     pub curve_found : max_pairs ≤ length ws → max_pairs ≤ length gs → length ws' ≡ length ws → length gs' ≡ length gs → CurveFound B h.fits ws gs ws' gs' r
     curve_found wl gl ws_same gs_same =

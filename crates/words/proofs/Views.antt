@@ -8,7 +8,7 @@ use native.Mathlib.Decide.{ℕ_discrete}
 use native.Mathlib.Omega.{arith}
 use lib.ListN.{length, get_or, set, length-set}
 use lib.Seq.{get_or-set_same, get_or-set_other, ext_get_or}
-use Rattle.lists.proofs.Over.{length_build, getD_build, build_same}
+use Rattle.lists.proofs.Over.{length_build, get_or_build, build_same}
 use Rattle.words.specs.View.{view}
 
 module _ (from stride count : ℕ) (words : List ℕ) where
@@ -18,7 +18,7 @@ module _ (from stride count : ℕ) (words : List ℕ) where
 
   pub at_view : (k : ℕ) → k < count → get_or (view from stride count words) k 0 ≡ get_or words (k * stride + from) 0
   unfolding view
-  at_view k l = getD_build count _ k 0 l
+  at_view k l = get_or_build count _ k 0 l
 
   -- a word written elsewhere
   pub view_beside : (p v : ℕ) → ((k : ℕ) → k < count → k * stride + from ≢ p) → view from stride count (set words p v) ≡ view from stride count words
