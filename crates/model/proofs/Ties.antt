@@ -31,9 +31,9 @@ same_behind a b xs (suc h) l = refl
 
 before_then : {xs ys : List ℕ} → Before xs ys → SmallerAtSome xs ys
 before_then (here {a} {b} {xs} l) = (refl, 0, omega arith, omega arith, same_behind a b xs)
-before_then (behind {a} {b} {xs} {ys} h) =
+before_then (behind {xs = xs} {ys = ys} h) =
     let (e, g, within, smaller, s) = before_then h in
-    (ap suc e, suc g, omega arith, smaller, further a b xs ys g s)
+    (ap suc e, suc g, omega arith, smaller, further _ _ xs ys g s)
 
 before_if : (xs ys : List ℕ) → length xs ≡ length ys → (g : ℕ) → get_or xs g 0 < get_or ys g 0 → SameAbove xs ys g → Before xs ys
 before_if [] [] e g l s = absurd (omega arith)
