@@ -8,9 +8,6 @@ returns-then-widths-lt-MAX_PAIRS c = record { by_index = λ file arrival deadlin
 pub returns-then-gains-lt-MAX_PAIRS : goal.returns-then-gains-lt-MAX_PAIRS
 returns-then-gains-lt-MAX_PAIRS c = record { by_index = λ file arrival deadline held. gains_short held.well c.if-widths-lt-MAX_PAIRS.false c.if-gains-lt-MAX_PAIRS.true; curve_bounds = tt }
 
-pub curve_held-requires : goal.curve_held-requires
-curve_held-requires c = record { by_index = c.requires; max_pairs_in_bounds = (c.if-widths-lt-MAX_PAIRS.false, c.if-gains-lt-MAX_PAIRS.false) }
-
 pub returns : goal.returns
 returns c =
     record { by_index = λ file arrival deadline held. curve_answered held.well c.if-widths-lt-MAX_PAIRS.false c.if-gains-lt-MAX_PAIRS.false (c.curve_held.ensures.by_index_2 file arrival deadline held); curve_bounds = c.curve_held.ensures.curve_bounds }
