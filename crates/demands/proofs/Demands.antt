@@ -4,7 +4,7 @@
 use mathlib.Core.Path.{◌≡◌, ◌∙◌, ap}
 use mathlib.Core.Logic.{◌↔◌, ◌≢◌, ◌⊎◌, inl, inr, ⊎_elim}
 use mathlib.Core.List.{List, [], ◌∷◌, Memᴰ}
-use Prim.Native.Nat.{ℕ, ◌+◌, ◌*◌, ◌≤◌, ◌<◌}
+use Prim.Native.Nat.{ℕ, suc, ◌+◌, ◌-◌, ◌*◌, ◌≤◌, ◌<◌}
 use native.Mathlib.Nat.{add-zero}
 use native.Mathlib.Omega.{arith}
 use lib.IntN.{ℤ, pos, ◌-ℤ◌}
@@ -12,7 +12,7 @@ use lib.ListN.{length, get_or, take, drop}
 use Rattle.lists.specs.Over.{build, over}
 use Rattle.lists.specs.Search.{Lowest}
 use Rattle.lists.proofs.Compare.{le_or_lt}
-use Rattle.model.specs.Limits.{max_pairs, max_ticks}
+use Rattle.model.specs.Limits.{max_gates, max_activity, max_drop, max_gain, max_pairs, max_ticks}
 use Rattle.model.specs.Block.{Block, redated, gate_count, first, last}
 use Rattle.model.specs.Netlist.{Netlist, block_of}
 use Rattle.model.specs.File.{Limited, found, decode, encode}
@@ -26,13 +26,15 @@ use Rattle.model.specs.Part.{Shape, Whole, SeriesParallel, lone, built}
 use Rattle.model.specs.Slack.{source_delay, required_time, slack, start}
 use Rattle.model.specs.Ticks.{Reached, Fewest}
 use Rattle.model.specs.Scale.{FinerTicks}
-use Rattle.model.specs.Remainder.{Moment, ReducedTo, Remains}
+use Rattle.model.specs.Remainder.{Moment, beginning, Move, Moves, ReducedTo, Remains}
 use Rattle.model.specs.Refusal.{SoundNetwork, WellFormed, IllFormed}
 use Rattle.model.specs.Layout.{increase_bytes, list_bytes, GivesLayout, AnswersLayout}
 use Rattle.model.specs.Answer.{Outcome, Slices, accepted, refusal, Line, Judged, ill_formed, well_formed, NotSeriesParallelAt, GivesCurve, GivesBest, GivesTicks, fewest, AnswersSlacks, AnswersCurve, AnswersBest, AnswersJudge, AnswersTicks}
 use Rattle.model.proofs.Reading.{read_block_found}
 use Rattle.model.proofs.File.{encode_decodes}
+use Rattle.model.proofs.Limited.{read_limits}
 use Rattle.model.proofs.Editions.{Agree, same_block_read}
+use Rattle.model.proofs.Best.{best_unique}
 use Rattle.model.proofs.Ties.{before_exactly}
 use Rattle.model.proofs.Slack as paths
 use Rattle.model.proofs.Ticks.{fewest_by_curve, unreached_by_curve, fewest_small, unreached_exactly, ticks_redated}
@@ -41,9 +43,11 @@ use Rattle.optimum.proofs.Scaling.{finer_ticks}
 use Rattle.parts.proofs.Remainder.{same_gates_left}
 use Rattle.parts.proofs.Remains.{some_end, left_exactly}
 use Rattle.planting.proofs.Wires.{few_wires}
-use Rattle.shaping.proofs.Facts.{descending, no_wire_twice}
+use Rattle.shaping.proofs.Facts.{descending, ranges, no_wire_twice}
 use Rattle.demands.proofs.TableLaws.{ill_formed_number, same_outcomes, passed, decided, roomy, answered_at, eleven_line, after_eleven, behind_eleven_exactly}
 use Rattle.demands.proofs.CallLaws.{both, beside, best_in_front, best_bytes, limits, as_network, some_gate, along, late_or_not, in_time, slacks_lines, curve_lines, best_lines, judge_lines, layout_lines, ticks_lines, best_accepts, layout_accepts, curve_accepts, ticks_accepts}
+use Rattle.demands.proofs.Ending.{steps_made, steps_few, no_endless_order, comes_to_an_end}
+use Rattle.demands.proofs.GainLaws.{pair_gain, formula_ranges}
 use Rattle.demands.proofs.Judging.{accepted_in_time, accepted_saves}
 
 -- the block is one gate without a wire
@@ -167,10 +171,22 @@ module _ {file : List ℕ} {B : Block} (well : WellFormed file B) where
       × (drop (gate_count B) o.memory ≡ drop (gate_count B) lent)
   best_returned a long sp ok = best_in_front (increases_given a long sp ok)
 
-  -- "The layout editor's bytes hold that same list" (document 01): four bytes an increase.
+  -- The layout editor is given the best list as bytes, four an increase; ..
   pub best_laid_out : {lent y : List ℕ} {o : Outcome (List ℕ)} → AnswersLayout file lent o → increase_bytes * gate_count B ≤ length lent → SeriesParallel B → InTime B y
       → (x : List ℕ) × Best B x × (o ≡ record { answer = accepted (saving B x ∷ gate_count B ∷ []); memory = over (list_bytes x) lent })
   best_laid_out a long sp ok = best_bytes (layout_given a long sp ok)
+
+  -- .. "the layout editor's bytes hold that same list" (document 01): the one that the best increases leave in front of their slice.
+  pub same_list_laid_out : {lent bytes y : List ℕ} {o q : Outcome (List ℕ)} → AnswersBest file lent o → gate_count B ≤ length lent
+      → AnswersLayout file bytes q
+      → increase_bytes * gate_count B ≤ length bytes
+      → SeriesParallel B
+      → InTime B y
+      → q.memory ≡ over (list_bytes (take (gate_count B) o.memory)) bytes
+  same_list_laid_out {bytes = bytes} {o = o} a long b wide sp ok =
+      let (x, is_best, e) = best_laid_out b wide sp ok in
+      ap (λ (q : Outcome (List ℕ)). q.memory) e
+      ∙ ap (λ (z : List ℕ). over (list_bytes z) bytes) (best_unique B x (take (gate_count B) o.memory) is_best (best_returned a long sp ok).0)
 
   -- "Not series-parallel" is returned exactly when the block is no lone gate and no building up gives it; and with which place, "the lowest-numbered gate left other than 0 and n − 1" (document 02, K1), ..
   pub eleven_exactly : {lent : List ℕ} {o : Outcome (List ℕ)} → AnswersBest file lent o → gate_count B ≤ length lent → ElevenExactly B o
@@ -198,6 +214,17 @@ module _ {file : List ℕ} {B : Block} (well : WellFormed file B) where
   -- .. some order comes to an end, ..
   pub left_at_an_end : (M : Moment) × ReducedTo B M
   left_at_an_end = some_end (as_network well)
+
+  -- .. and so does every order: each step leaves one wire fewer, so that there are no more steps than wires, ..
+  pub few_steps : {M : Moment} (moves : Moves (beginning B) M) → steps_made moves ≤ length B.wires
+  few_steps = steps_few B
+
+  pub not_endless : (M : ℕ → Moment) → M 0 ≡ beginning B → ¬ ((i : ℕ) → Move (M i) (M (suc i)))
+  not_endless = no_endless_order B
+
+  -- .. and whatever steps were made, further ones lead to an end, ..
+  pub on_to_an_end : {M : Moment} → Moves (beginning B) M → (N : Moment) × Moves M N × ReducedTo B N
+  on_to_an_end = comes_to_an_end B
 
   -- .. and a gate other than 0 and n − 1 is left exactly when "not series-parallel" is true.
   pub left_when_not_built : ((g : ℕ) × Remains B g) ↔ NotBuilt B
@@ -253,6 +280,10 @@ module _ {file : List ℕ} {B : Block} (well : WellFormed file B) where
   pub wires_few : SeriesParallel B → 2 ≤ gate_count B → length B.wires + 3 ≤ 2 * gate_count B
   wires_few sp = few_wires B sp (no_wire_twice B (limits well) well.network) (as_network well).below
 
+  -- "A pair's gain is now at most 199 × 65,535 × 1,000": of the block's curve, in every edition.
+  pub gains_most : {s a : ℕ} {ps : List Pair} → SeriesParallel B → IsCurve B s a ps → (p : Pair) → Memᴰ p ps → p.gain ≤ max_gain
+  gains_most sp = pair_gain B (limits well) well.network sp max_activity (ranges B (limits well))
+
 -- DOCUMENT 02, K2. "The optimum is claimed for both editions": what is said above holds of every well-formed file; and every netlist within the limits, of any edition, with whatever wire delays and activities the edition has, is said by such a file if its network is sound.
 pub has_a_file : {N : Netlist} → Limited N → SoundNetwork (block_of N) → WellFormed (encode N) (block_of N)
 has_a_file {N} l sound = record { end = length (encode N); reads = read_block_found (encode N) (encode_decodes l); network = sound }
@@ -263,6 +294,15 @@ pub same_answers : {s t : List ℕ} {M N : Netlist} {m n : ℕ} → decode s ≡
 same_answers {s} {t} d e a lent further o =
     let r = same_block_read s t d e a in
     (same_outcomes further r.0 r.1, same_outcomes further r.1 r.0)
+
+-- Document 01's bound on gains, "no pair's gain is above 63 × 32,768 × 1,000", stays where the formula does, with the gates of K10: of the curve of every file of editions 1 and 2.
+pub formula_gains : (file : List ℕ) {N : Netlist} {end s a : ℕ} {ps : List Pair} → decode file ≡ found N end → N.edition ≤ 2 → SoundNetwork (block_of N) → SeriesParallel (block_of N)
+    → IsCurve (block_of N) s a ps
+    → (p : Pair) → Memᴰ p ps
+    → p.gain ≤ (max_gates - 1) * 32768 * max_drop
+formula_gains file {N} reads early sound sp =
+    let kept = read_limits file (read_block_found file reads) in
+    pair_gain (block_of N) kept sound sp 32768 (formula_ranges N early kept)
 
 -- DOCUMENT 02, K8. "Compare tied lists from gate n − 1 downwards; the smaller increase at the first difference comes first": every other list in time that saves as much as the best has a greater increase at some gate, and the same at every gate above.
 pub ties_from_the_far_end : {B : Block} {x y : List ℕ} → Best B x → InTime B y → saving B y ≡ saving B x → y ≢ x
