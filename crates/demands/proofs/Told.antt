@@ -1,4 +1,4 @@
--- Every number that a call for C hands back is settled by the file and the lent memory: of two answers that both meet the call's promise all numbers are equal, and so is the memory afterwards. For each of the five calls, over what its promise says: a table of model (`Answers..`) of the numbers told (`told`, `layout_answer`), and what is 0 in them (`UnsaidZero`, `NoSavingRefused`).
+-- Every number that a call for C hands back is settled by the file, the lent memory and, of the fewest ticks, the wanted saving: of two answers that both meet the call's promise all numbers are equal, and so is the memory afterwards. For each of the five calls, over what its promise says: a table of model (`Answers..`) of the numbers told (`told`, `layout_answer`), and what is 0 in them (`UnsaidZero`, `NoSavingRefused`).
 -- The idea: the table allows one outcome (`answers_.._unique` of model), and an answer is told in one way, since what it leaves unsaid is 0.
 -- Assumes nothing.
 use mathlib.Core.Path.{◌≡◌, refl, sym, ◌∙◌, ap}
