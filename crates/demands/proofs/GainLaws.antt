@@ -1,4 +1,4 @@
--- The gains of the pairs of a curve: none is above that of 199 gates (`max_gates` − 1), each of the greatest activity and the greatest drop (document 01).
+-- The gains of the pairs of a curve: none is above that of `max_gates` − 1 gates, each of the greatest activity and the greatest drop (document 01).
 -- The idea: a block has one curve, and of the one that the handing-out of ticks records this is known. Assumes nothing.
 use mathlib.Core.Path.{subst}
 use mathlib.Core.List.{List, Memᴰ}
