@@ -7,7 +7,7 @@ ghost use Rattle.std.specs.Io.KnownBytes.{Consumes, IsAtEnd};
 use std::io;
 use std::io::Read;
 
-// Puts the bytes that the reader gives next at the front of `buf`, as far as it goes, and answers how many. Where those are fewer than `buf` has room for, the reader is at its end.
+// Puts the bytes that the reader gives next at the front of `buf`, as far as it goes, and answers how many. Where those are fewer than `buf` has room for, the reader is at its end. What stands behind them in `buf` is free, and so are reader and `buf` after an error.
 pub fn read_full<R: Read>(reader: &mut R, buf: &mut [u8]) -> io::Result<usize>
     ensures bound { IfOk result (λ n. n ≤ length buf.new) }
     ensures bytes { IfOk result (λ n. Consumes (R.remaining reader.old) (R.remaining reader.new) (take n buf.new)) }
