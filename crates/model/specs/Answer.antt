@@ -1,15 +1,12 @@
 -- What each call answers, and what the lent slices hold afterwards (document 01, "Refusals and their places"; demands 1 to 3).
 -- Each `Answers..` below is the table of refusals for one call, line after line in the table's order. That a call has one outcome at most is a law (proofs/Answer).
-use Rattle.std.specs.Prelude.{◌≡◌, List, [], ◌∷◌, map, ℕ, ◌+◌, ◌≤◌, ◌<◌, ℤ, pos, ◌<ℤ◌, length, get_or, take}
+use Rattle.std.specs.Prelude.{◌≡◌, Result, Ok, Err, List, [], ◌∷◌, map, ℕ, ◌+◌, ◌≤◌, ◌<◌, ℤ, pos, ◌<ℤ◌, length, get_or, take}
 use Rattle.lists.specs.Over.{build, over}
 use Rattle.lists.specs.Search.{Lowest}
 use Rattle.model.specs.declared.Refusal.{Refusal}
 use Rattle.model.specs.declared.Refusal.TheVariants.{Short, Tag, Length, Range, Drops, Wire, Excess, Loop, Ends, Room, NotSeriesParallel, Late, Widths, PathLate, Unreached}
-use Rattle.model.specs.declared.SlacksAnswer as Slacks
-use Rattle.model.specs.declared.CurveAnswer as Curve
-use Rattle.model.specs.declared.BestAnswer as Best
-use Rattle.model.specs.declared.JudgeAnswer as Judge
-use Rattle.model.specs.declared.TicksAnswer as Ticks
+use Rattle.model.specs.declared.CurveFound.{CurveFound}
+use Rattle.model.specs.declared.BestFound.{BestFound}
 use Rattle.model.specs.Limits.{max_pairs, max_gain}
 use Rattle.model.specs.Block.{Block, gate, gate_count, first, last, widths}
 use Rattle.model.specs.Path.{Path}
@@ -52,30 +49,30 @@ refusal_answer (Widths g) = refusal 13 g
 refusal_answer PathLate = refusal 14 0
 refusal_answer Unreached = refusal 17 0
 
+-- the answer of a call: the values of what it gives, or its refusal
+abbrev pub answer_of : {A : Type 0} → (A → List ℕ) → Result A Refusal → Answer
+answer_of values (Ok found) = accepted (values found)
+answer_of values (Err r) = refusal_answer r
+
 -- slacks: how many were written
-abbrev pub slacks_answer : Slacks.SlacksAnswer → Answer
-slacks_answer (Slacks.TheVariants.Given n) = accepted (n ∷ [])
-slacks_answer (Slacks.TheVariants.Refused r) = refusal_answer r
+abbrev pub slacks_answer : Result ℕ Refusal → Answer
+slacks_answer = answer_of (λ (written : ℕ). written ∷ [])
 
 -- the curve: start, saving at start, how many pairs were written
-abbrev pub curve_answer : Curve.CurveAnswer → Answer
-curve_answer (Curve.TheVariants.Given s a n) = accepted (s ∷ a ∷ n ∷ [])
-curve_answer (Curve.TheVariants.Refused r) = refusal_answer r
+abbrev pub curve_answer : Result CurveFound Refusal → Answer
+curve_answer = answer_of (λ (found : CurveFound). found.start ∷ found.at_start ∷ found.pairs ∷ [])
 
 -- the best increases: the saving, how many were written
-abbrev pub best_answer : Best.BestAnswer → Answer
-best_answer (Best.TheVariants.Given s n) = accepted (s ∷ n ∷ [])
-best_answer (Best.TheVariants.Refused r) = refusal_answer r
+abbrev pub best_answer : Result BestFound Refusal → Answer
+best_answer = answer_of (λ (found : BestFound). found.saving ∷ found.gates ∷ [])
 
 -- judging: the saving
-abbrev pub judge_answer : Judge.JudgeAnswer → Answer
-judge_answer (Judge.TheVariants.Accepted s) = accepted (s ∷ [])
-judge_answer (Judge.TheVariants.Refused r) = refusal_answer r
+abbrev pub judge_answer : Result ℕ Refusal → Answer
+judge_answer = answer_of (λ (saved : ℕ). saved ∷ [])
 
 -- the fewest ticks: how many
-abbrev pub ticks_answer : Ticks.TicksAnswer → Answer
-ticks_answer (Ticks.TheVariants.Given k) = accepted (k ∷ [])
-ticks_answer (Ticks.TheVariants.Refused r) = refusal_answer r
+abbrev pub ticks_answer : Result ℕ Refusal → Answer
+ticks_answer = answer_of (λ (ticks : ℕ). ticks ∷ [])
 
 -- What a call leaves: its answer, and what the memory lent to it holds afterwards.
 pub record Outcome (S : Type 0) : Type 0 where
@@ -171,9 +168,9 @@ abbrev pub PairBounds : ℕ → List ℕ → Type 0
 PairBounds pairs gains = (pairs ≤ max_pairs) × ((i : ℕ) → i < pairs → get_or gains i 0 ≤ max_gain)
 
 -- the pairs of an accepted answer are within these bounds
-abbrev pub CurveBounds : Curve.CurveAnswer → List ℕ → Type 0
-CurveBounds (Curve.TheVariants.Given start at_start pairs) gains = PairBounds pairs gains
-CurveBounds (Curve.TheVariants.Refused refusal) gains = Unit {0}
+abbrev pub CurveBounds : Result CurveFound Refusal → List ℕ → Type 0
+CurveBounds (Ok found) gains = PairBounds found.pairs gains
+CurveBounds (Err refusal) gains = Unit {0}
 
 -- the best list of the block in front of the slice
 pub data GivesBest (B : Block) (lent : List ℕ) (o : Outcome (List ℕ)) : Type 0 where

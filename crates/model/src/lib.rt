@@ -1,12 +1,12 @@
-// What every crate shares: the refusals, the answers of the calls, the activity of a net, and the limits of a file.
+// What every crate shares: the refusals, what the calls find, the activity of a net, and the limits of a file.
 // The definitions to believe stand in specs/; specs/Answer.antt sets out document 01's number and values for each case below.
 #![tactic(auto)]
 
 pub mod activity;
 pub mod limits;
 
-// Why a file or a buffer is refused. Offsets are those of a field's tag.
-#[derive(Clone, Copy)]
+// Why a file or a buffer is refused: the error of every call. Offsets are those of a field's tag.
+#[derive(Clone, Copy, Debug, PartialEq, Eq)]
 pub enum Refusal {
     // 1: a due block or gate field is missing, or a header or body passes the end.
     Short { offset: usize },
@@ -41,7 +41,7 @@ pub enum Refusal {
 }
 
 // The field at an offset of a file.
-#[derive(Clone, Copy)]
+#[derive(Clone, Copy, Debug, PartialEq, Eq)]
 pub enum Field {
     // Fewer bytes are left than a header has.
     NoHeader,
@@ -51,41 +51,17 @@ pub enum Field {
     Whole { tag: u8, from: usize, to: usize },
 }
 
-// The slacks of a block: the first `gates` elements of the lent slice.
-#[derive(Clone, Copy)]
-pub enum SlacksAnswer {
-    Given { gates: usize },
-    Refused(Refusal),
+// What is found of a curve: start, the saving at start, and how many pairs there are, whose widths and gains are in front of the two lent slices.
+#[derive(Clone, Copy, Debug, PartialEq, Eq)]
+pub struct CurveFound {
+    pub start: u32,
+    pub at_start: u64,
+    pub pairs: usize,
 }
 
-// The curve of a block: the first `pairs` elements of the two lent slices are its widths and gains.
-#[derive(Clone, Copy)]
-pub enum CurveAnswer {
-    Given {
-        start: u32,
-        at_start: u64,
-        pairs: usize,
-    },
-    Refused(Refusal),
-}
-
-// The best increases of a block: the first `gates` elements of the lent slice.
-#[derive(Clone, Copy)]
-pub enum BestAnswer {
-    Given { saving: u64, gates: usize },
-    Refused(Refusal),
-}
-
-// The verdict on a proposed list.
-#[derive(Clone, Copy)]
-pub enum JudgeAnswer {
-    Accepted { saving: u64 },
-    Refused(Refusal),
-}
-
-// The fewest spare ticks for a wanted saving.
-#[derive(Clone, Copy)]
-pub enum TicksAnswer {
-    Given { ticks: u32 },
-    Refused(Refusal),
+// What the best increases save, and how many gates there are, whose increases are in front of the lent slice.
+#[derive(Clone, Copy, Debug, PartialEq, Eq)]
+pub struct BestFound {
+    pub saving: u64,
+    pub gates: usize,
 }
