@@ -8,18 +8,17 @@ use lib.ListN.{length}
 use Rattle.model.specs.declared.Refusal.{Refusal}
 use Rattle.model.specs.Block.{Block}
 use Rattle.model.specs.File.{found, read_block}
-use Rattle.model.specs.Refusal.{IllFormed, unread, loop, ends}
+use Rattle.model.specs.Refusal.{WellFormed, IllFormed, unread, loop, ends}
 use Rattle.blockfile.specs.declared.read.BlockRead.TheVariants as Whole
 use Rattle.blockfile.specs.Held.{GateArrays, WireArrays, WireRoom}
 use Rattle.blockfile.specs.Reads.{block_passing}
-use Rattle.network.specs.declared.Network.{Network}
 use Rattle.network.specs.declared.Network.TheVariants.{Sound, Loop, Ends}
-use Rattle.ordering.specs.Wires.{Lent, InArrays}
-use Rattle.ordering.specs.Order.{Order, SameBeyond}
+use Rattle.ordering.specs.Wires.{Lent, Wired, InArrays}
+use Rattle.ordering.specs.Order.{Order}
 use Rattle.network.specs.Judged.{Judged}
 use Rattle.ordering.proofs.Wires.{wired_joined}
 use Rattle.loading.proofs.Held.{gates_are, lent, in_arrays}
-use Rattle.loading.specs.Loads.{block_held, loaded_as, number_of, place_of, Loads}
+use Rattle.loading.specs.Loads.{block_held, number_of, place_of}
 
 -- a file that was not read
 pub not_read : (file : List ℕ) (x : Refusal) (G : GateArrays) (W : WireArrays)
@@ -58,17 +57,15 @@ module _ (file : List ℕ) (n m arrival deadline activity : ℕ) (G : GateArrays
   pub lent_read : WireRoom W → Lent n m W.sources W.targets
   lent_read = lent file n m arrival deadline activity G W (length file) read_as
 
-  as_judged : (before order : List ℕ) (net : Network) → SameBeyond n before order → Judged the_block order net → Loads file (loaded_as n m arrival deadline activity net) G W before order
-  as_judged before order Sound same j = (
-    record { end = length file; reads = read_as; network = j.0 },
-    order_for (gates_are file n m arrival deadline activity G W (length file) read_as) (wired_joined the_block n m W.sources W.targets arrays_hold) j.1,
-    same,
+  pub sound : {order : List ℕ} → ((B : Block) → InArrays B n m W.sources W.targets → Judged B order Sound) → WellFormed file the_block × Order (Wired m W.sources W.targets) n order
+  sound j = (
+    record { end = length file; reads = read_as; network = (j the_block arrays_hold).0 },
+    order_for (gates_are file n m arrival deadline activity G W (length file) read_as) (wired_joined the_block n m W.sources W.targets arrays_hold)
+    (j the_block arrays_hold).1,
   )
-  as_judged before order (Loop g) same j = loop the_block (length file) read_as j refl
-  as_judged before order (Ends g) same j = ends the_block (length file) read_as j.0 j.1 refl
 
-  pub loaded : (before order : List ℕ) (net : Network)
-      → ((B : Block) → InArrays B n m W.sources W.targets → Judged B order net)
-      → SameBeyond n before order
-      → Loads file (loaded_as n m arrival deadline activity net) G W before order
-  loaded before order net j same = as_judged before order net same (j the_block arrays_hold)
+  pub on_loop : (order : List ℕ) {g : ℕ} → ((B : Block) → InArrays B n m W.sources W.targets → Judged B order (Loop g)) → IllFormed file 8 g
+  on_loop order j = loop the_block (length file) read_as (j the_block arrays_hold) refl
+
+  pub at_fault : (order : List ℕ) {g : ℕ} → ((B : Block) → InArrays B n m W.sources W.targets → Judged B order (Ends g)) → IllFormed file 9 g
+  at_fault order j = ends the_block (length file) read_as (j the_block arrays_hold).0 (j the_block arrays_hold).1 refl

@@ -23,3 +23,6 @@ pub type GateNumbers = [u32; MAX_GATES];
 
 // A number for each step.
 pub type StepNumbers = [u32; MAX_PAIRS];
+
+// A number for each wire.
+pub type WireNumbers = [u32; MAX_WIRES];

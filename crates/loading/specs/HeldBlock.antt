@@ -1,0 +1,52 @@
+-- What the arrays of a held block hold, and what loading a file answers.
+use Rattle.std.specs.Prelude.{Result, Ok, Err, List, ℕ, replicate}
+use Rattle.model.specs.declared.Refusal.{Refusal}
+use Rattle.model.specs.Limits.{max_gates, max_wires, max_pairs}
+use Rattle.model.specs.Block.{Block}
+use Rattle.model.specs.Refusal.{IllFormed}
+use Rattle.blockfile.specs.Held.{GateArrays, gate_arrays, WireArrays, wire_arrays}
+use Rattle.ordering.specs.Order.{SameBeyond}
+use Rattle.loading.specs.declared.block.HeldBlock.{HeldBlock}
+use Rattle.loading.specs.Loads.{block_held, number_of, place_of}
+use Rattle.loading.specs.HeldFile.{HeldFile}
+
+-- the arrays of its gates, and of its wires
+abbrev pub gates_of : HeldBlock → GateArrays
+gates_of b = gate_arrays b.delays b.activities b.counts b.step_widths b.drops
+
+abbrev pub wires_of : HeldBlock → WireArrays
+wires_of b = wire_arrays b.sources b.targets b.wire_delays
+
+-- the block
+abbrev pub block_in : HeldBlock → Block
+block_in b = block_held b.gates b.wires b.arrival b.deadline b.activity (gates_of b) (wires_of b)
+
+-- no gate and no wire: 0 everywhere
+abbrev pub no_block : HeldBlock
+no_block =
+    record {
+      gates = 0;
+      wires = 0;
+      arrival = 0;
+      deadline = 0;
+      activity = 0;
+      delays = replicate max_gates 0;
+      activities = replicate max_gates 0;
+      counts = replicate max_gates 0;
+      step_widths = replicate max_pairs 0;
+      drops = replicate max_pairs 0;
+      sources = replicate max_wires 0;
+      targets = replicate max_wires 0;
+      wire_delays = replicate max_wires 0;
+      order = replicate max_gates 0;
+    }
+
+-- the file is well-formed and the block is its own, with an order of its gates along the wires
+abbrev pub Holds : List ℕ → HeldBlock → Type 0
+Holds file b = HeldFile file b.gates b.wires b.arrival b.deadline b.activity (gates_of b) (wires_of b) b.order
+
+-- The file is well-formed and the block is its own, with an order of its gates along the wires in the first elements of `order`, as many as there are gates, whose others are 0; or the refusal is the first of 1 to 9 that fits.
+-- Free is what the gate and wire arrays hold beyond the block's gates, steps and wires.
+abbrev pub Loads : List ℕ → Result HeldBlock Refusal → Type 0
+Loads file (Ok b) = Holds file b × SameBeyond b.gates no_block.order b.order
+Loads file (Err r) = IllFormed file (number_of r) (place_of r)

@@ -1,0 +1,52 @@
+// A block in arrays, with an order of its gates along the wires.
+ghost use Rattle.std.specs.Prelude.{◌≡◌};
+ghost use Rattle.loading.specs.HeldBlock.{no_block};
+
+use model::limits::{GateNumbers, MAX_GATES, MAX_PAIRS, MAX_WIRES, StepNumbers, WireNumbers};
+
+// Gate g stands at place g of the arrays of gates, step j of gate g at place MAX_STEPS * g + j, wire i at place i.
+#[derive(Drop)]
+pub struct HeldBlock {
+    // How many gates and wires there are.
+    pub gates: usize,
+    pub wires: usize,
+    pub arrival: u32,
+    pub deadline: u32,
+    // The activity of the block's input.
+    pub activity: u32,
+    pub delays: GateNumbers,
+    pub activities: GateNumbers,
+    // How many steps each gate has.
+    pub counts: GateNumbers,
+    pub step_widths: StepNumbers,
+    pub drops: StepNumbers,
+    pub sources: WireNumbers,
+    pub targets: WireNumbers,
+    pub wire_delays: WireNumbers,
+    // The gates in an order along the wires.
+    pub order: GateNumbers,
+}
+
+impl HeldBlock {
+    // No gate and no wire: 0 everywhere.
+    pub(crate) fn empty() -> Self
+        ensures { result ≡ no_block }
+    {
+        Self {
+            gates: 0,
+            wires: 0,
+            arrival: 0,
+            deadline: 0,
+            activity: 0,
+            delays: [0; MAX_GATES],
+            activities: [0; MAX_GATES],
+            counts: [0; MAX_GATES],
+            step_widths: [0; MAX_PAIRS],
+            drops: [0; MAX_PAIRS],
+            sources: [0; MAX_WIRES],
+            targets: [0; MAX_WIRES],
+            wire_delays: [0; MAX_WIRES],
+            order: [0; MAX_GATES],
+        }
+    }
+}
