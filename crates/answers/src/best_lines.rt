@@ -1,62 +1,52 @@
-// The best increases of a well-formed file's block, which is in the arrays: refusals 11 and 12, or what is found.
+// The best increases of a well-formed file's block: refusals 11 and 12, or what is found.
 ghost use Rattle.std.specs.Prelude.{List, ℕ, ◌≤◌, length};
 ghost use Rattle.model.specs.Answer.{BestLines, best_answer};
-ghost use Rattle.blockfile.specs.Held.{gate_arrays, wire_arrays};
-ghost use Rattle.loading.specs.Loads.{block_held};
-ghost use Rattle.loading.specs.HeldFile.{HeldFile};
+ghost use Rattle.loading.specs.HeldBlock.{Holds, block_in};
 
-use gains::inputs::input_activities;
-use model::limits::{GateNumbers, MAX_GATES, StepNumbers};
-use model::{BestAnswer, Refusal};
+use holding::{input_activities_of, start_of};
+use loading::block::HeldBlock;
+use model::{BestFound, Refusal};
 use planting::tree_words::TREE_WORDS;
 use shaping::plant::{TreeAnswer, plant_block};
 use spending::tree::tree_increases;
-use timing::start::start_time;
 
 // The best increases of the block, to the front of the slice.
-// Public for the crates above only: they have shown that a well-formed file's block is in the arrays.
-pub fn best_held(
-    n: usize,
-    m: usize,
-    arrival: u32,
-    deadline: u32,
-    activity: u32,
-    delays: &[u32],
-    activities: &[u32],
-    counts: &GateNumbers,
-    step_widths: &StepNumbers,
-    drops: &StepNumbers,
-    sources: &[u32],
-    targets: &[u32],
-    wire_delays: &[u32],
-    order: &[u32],
-    increases: &mut [u32],
-) -> BestAnswer
-    requires by_index { (file : List ℕ) × HeldFile file n m arrival deadline activity (gate_arrays delays.now activities.now counts.now step_widths.now drops.now) (wire_arrays sources.now targets.now wire_delays.now) order.now }
-    requires n_in_bounds { n ≤ length increases.old }
-    ensures { (file : List ℕ) → HeldFile file n m arrival deadline activity (gate_arrays delays.now activities.now counts.now step_widths.now drops.now) (wire_arrays sources.now targets.now wire_delays.now) order.now → BestLines (block_held n m arrival deadline activity (gate_arrays delays.now activities.now counts.now step_widths.now drops.now) (wire_arrays sources.now targets.now wire_delays.now)) increases.old (record { answer = best_answer result; memory = increases.new }) }
+// Public for the crates above only: they have shown that the block is a well-formed file's.
+pub fn best_held(block: &HeldBlock, increases: &mut [u32]) -> Result<BestFound, Refusal>
+    requires held { (file : List ℕ) × Holds file block.now }
+    requires room { block.now.gates ≤ length increases.old }
+    ensures { (file : List ℕ) → Holds file block.now → BestLines (block_in block.now) increases.old (record { answer = best_answer result; memory = increases.new }) }
 {
+    let n = block.gates;
     let mut tree = [0u32; TREE_WORDS];
-    let planted = plant_block(n, m, sources, targets, wire_delays, &mut tree);
+    let planted = plant_block(
+        n,
+        block.wires,
+        &block.sources,
+        &block.targets,
+        &block.wire_delays,
+        &mut tree,
+    );
     if let TreeAnswer::NotSeriesParallel { gate } = planted {
-        return BestAnswer::Refused(Refusal::NotSeriesParallel { gate });
+        return Err(Refusal::NotSeriesParallel { gate });
     }
-    let start = start_time(n, m, order, sources, targets, wire_delays, delays);
+    let start = start_of(block);
+    let arrival = block.arrival;
+    let deadline = block.deadline;
     if deadline < arrival + start {
-        return BestAnswer::Refused(Refusal::Late);
+        return Err(Refusal::Late);
     }
-    let mut inputs = [0u32; MAX_GATES];
-    input_activities(n, m, sources, targets, activities, 0, activity, &mut inputs);
+    let inputs = input_activities_of(block);
     let saving = tree_increases(
         deadline - (arrival + start),
         n as u32,
         &tree,
-        counts,
-        step_widths,
-        drops,
+        &block.counts,
+        &block.step_widths,
+        &block.drops,
         &inputs,
-        &delays[..n],
+        &block.delays[..n],
         &mut increases[..n],
     );
-    BestAnswer::Given { saving, gates: n }
+    Ok(BestFound { saving, gates: n })
 }

@@ -1,3 +1,52 @@
-// Laws of a block that a well-formed file holds and that is in arrays: what timing and gains ask of it, and what they find is the block's. No code.
-
+// What a well-formed file's block is to timing and gains, and its start and its input activities. For the crates above.
 #![tactic(auto)]
+
+ghost use Rattle.std.specs.Prelude.{◌≡◌, List, ℕ, ◌≤◌, length};
+ghost use Rattle.model.specs.Limits.{max_gates};
+ghost use Rattle.model.specs.InTime.{no_increase};
+ghost use Rattle.model.specs.Slack as Slack;
+ghost use Rattle.timing.specs.Times.{time_bound};
+ghost use Rattle.gains.specs.Activities.{InputActivities};
+ghost use Rattle.loading.specs.HeldBlock.{Holds, block_in};
+
+use gains::inputs::input_activities;
+use loading::block::HeldBlock;
+use model::limits::{GateNumbers, MAX_GATES};
+use timing::start::start_time;
+
+// The start of a block: how long its longest path lasts with no increase.
+pub fn start_of(block: &HeldBlock) -> u32
+    requires { (file : List ℕ) × Holds file block.now }
+    ensures start { result ≡ Slack.start (block_in block.now) }
+    ensures small { result ≤ time_bound }
+{
+    start_time(
+        block.gates,
+        block.wires,
+        &block.order,
+        &block.sources,
+        &block.targets,
+        &block.wire_delays,
+        &block.delays,
+    )
+}
+
+// The input activity of each gate of a block, in front; 0 behind.
+pub fn input_activities_of(block: &HeldBlock) -> GateNumbers
+    requires { (file : List ℕ) × Holds file block.now }
+    ensures long { length result ≡ max_gates }
+    ensures activities { InputActivities block.now.gates block.now.wires block.now.sources block.now.targets block.now.activities 0 block.now.activity (no_increase max_gates) result }
+{
+    let mut inputs = [0; MAX_GATES];
+    input_activities(
+        block.gates,
+        block.wires,
+        &block.sources,
+        &block.targets,
+        &block.activities,
+        0,
+        block.activity,
+        &mut inputs,
+    );
+    inputs
+}

@@ -4,7 +4,6 @@ ghost use Rattle.model.specs.Answer.{AnswersCurve, PairBounds};
 ghost use Rattle.model.specs.Layout.{told, UnsaidZero};
 
 use laying::answer::refused;
-use model::CurveAnswer;
 use resizing::curve::curve;
 
 // Number 0: accepted, with start, the saving at start and how many pairs were written; the place is 0. Any other number: refused there, and all else is 0.
@@ -27,7 +26,7 @@ pub extern "C" fn honduvi_curve(file: &[u8], widths: &mut [u32], gains: &mut [u6
 {
     let answer = curve(file, widths, gains);
     match answer {
-        CurveAnswer::Refused(refusal) => {
+        Err(refusal) => {
             let numbers = refused(refusal);
             LayoutCurve {
                 number: numbers.number,
@@ -37,18 +36,14 @@ pub extern "C" fn honduvi_curve(file: &[u8], widths: &mut [u32], gains: &mut [u6
                 at_start: 0,
             }
         }
-        CurveAnswer::Given {
-            start,
-            at_start,
-            pairs,
-        } => {
-            let written = pairs as u32;
+        Ok(found) => {
+            let written = found.pairs as u32;
             LayoutCurve {
                 number: 0,
                 place: 0,
-                start,
+                start: found.start,
                 pairs: written,
-                at_start,
+                at_start: found.at_start,
             }
         }
     }

@@ -4,7 +4,6 @@ ghost use Rattle.model.specs.Answer.{AnswersJudge};
 ghost use Rattle.model.specs.Layout.{told, UnsaidZero};
 
 use laying::answer::{LayoutAnswer, refused};
-use model::JudgeAnswer;
 use resizing::judge::judge;
 
 // The saving of the first increases of a list, one for each gate, with place 0; or the first refusal of 1 to 10, 13 and 14 that fits.
@@ -15,8 +14,8 @@ pub extern "C" fn honduvi_judge(file: &[u8], increases: &[u32]) -> LayoutAnswer
 {
     let answer = judge(file, increases);
     match answer {
-        JudgeAnswer::Refused(refusal) => refused(refusal),
-        JudgeAnswer::Accepted { saving } => LayoutAnswer {
+        Err(refusal) => refused(refusal),
+        Ok(saving) => LayoutAnswer {
             number: 0,
             place: 0,
             saving,

@@ -4,7 +4,6 @@ ghost use Rattle.model.specs.Answer.{AnswersSlacks};
 ghost use Rattle.model.specs.Layout.{told};
 
 use laying::answer::{LayoutAnswer, refused};
-use model::SlacksAnswer;
 
 // The slack of each gate to the front of `slacks`, with as place how many were written; or the first refusal of 1 to 10 that fits. The saving is 0.
 #[unsafe(no_mangle)]
@@ -14,8 +13,8 @@ pub extern "C" fn honduvi_slacks(file: &[u8], slacks: &mut [i32]) -> LayoutAnswe
 {
     let answer = resizing::slacks::slacks(file, slacks);
     match answer {
-        SlacksAnswer::Refused(refusal) => refused(refusal),
-        SlacksAnswer::Given { gates } => {
+        Err(refusal) => refused(refusal),
+        Ok(gates) => {
             let written = gates as u32;
             LayoutAnswer {
                 number: 0,

@@ -4,7 +4,6 @@ ghost use Rattle.model.specs.Answer.{AnswersTicks};
 ghost use Rattle.model.specs.Layout.{told, UnsaidZero};
 
 use laying::answer::refused;
-use model::TicksAnswer;
 use resizing::ticks::fewest_ticks;
 
 // Number 0: accepted, with the ticks; the place is 0. Any other number: refused there, and the ticks are 0.
@@ -24,7 +23,7 @@ pub extern "C" fn honduvi_fewest_ticks(file: &[u8], wanted: u64) -> LayoutTicks
 {
     let answer = fewest_ticks(file, wanted);
     match answer {
-        TicksAnswer::Refused(refusal) => {
+        Err(refusal) => {
             let numbers = refused(refusal);
             LayoutTicks {
                 number: numbers.number,
@@ -32,7 +31,7 @@ pub extern "C" fn honduvi_fewest_ticks(file: &[u8], wanted: u64) -> LayoutTicks
                 ticks: 0,
             }
         }
-        TicksAnswer::Given { ticks } => LayoutTicks {
+        Ok(ticks) => LayoutTicks {
             number: 0,
             place: 0,
             ticks: ticks as u64,

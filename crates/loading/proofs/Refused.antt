@@ -5,11 +5,13 @@ use mathlib.Core.List.{List, ◌∷◌}
 use Prim.Native.Nat.{ℕ, suc}
 use native.Mathlib.Omega.{arith}
 use lib.ListN.{length, get_or}
+use Rattle.std.specs.Prelude.{Result, IsErrAnd}
+use Rattle.std.proofs.lemmas.Result.{err_from_is_err_and}
 use Rattle.model.specs.declared.Refusal.{Refusal}
 use Rattle.model.specs.declared.Refusal.TheVariants.{Short, Tag, Length, Range, Drops, Wire, Excess, Loop, Ends, Room, NotSeriesParallel, Late, Widths, PathLate, Unreached}
 use Rattle.model.specs.Block.{Block}
 use Rattle.model.specs.Refusal.{IllFormed}
-use Rattle.model.specs.Answer.{Answer, accepted, refusal, refusal_answer, Outcome, Judged, ill_formed}
+use Rattle.model.specs.Answer.{Answer, accepted, refusal, refusal_answer, answer_of, Outcome, Judged, ill_formed}
 use Rattle.model.specs.Limits.{max_wires}
 use Rattle.blockfile.specs.Held.{WireArrays, WireRoom}
 use Rattle.loading.specs.Loads.{number_of, place_of}
@@ -45,6 +47,13 @@ pub passed_on : {S : Type 0} {file : List ℕ} {lent : S} {further : Block → O
     → Judged file lent further (record { answer = refusal_answer x; memory = lent })
 passed_on {lent = lent} x ill =
     ill_formed (number_of x) (place_of x) ill (ap (λ (a : Answer). record { answer = a; memory = lent }) (refusal_is x))
+
+-- the same of what a call hands up by `?`
+pub passed_up : {S A : Type 0} {file : List ℕ} {lent : S} {further : Block → Outcome S → Type 0} (values : A → List ℕ) (r : Result A Refusal) (x : Refusal)
+    → IsErrAnd r (λ (y : Refusal). y ≡ x)
+    → IllFormed file (number_of x) (place_of x)
+    → Judged file lent further (record { answer = answer_of values r; memory = lent })
+passed_up values r x is ill = let e = err_from_is_err_and r is in rw (e.1, e.2) (passed_on x ill)
 
 -- room for every wire, from the lengths of the calls' own arrays
 pub wire_room : {W : WireArrays} → length W.sources ≡ max_wires → length W.targets ≡ max_wires → length W.delays ≡ max_wires → WireRoom W

@@ -7,8 +7,8 @@ ghost use Rattle.printing.specs.PrintoutIn.{PrintoutIn};
 
 use crate::held::print_held;
 use blocktext::refusal::print_refusal;
-use loading::{Loaded, load};
-use model::limits::{MAX_GATES, MAX_PAIRS, MAX_WIRES};
+use loading::load;
+use model::limits::MAX_GATES;
 use text::lines::{GATE_ROOM, HEAD_ROOM};
 
 // The bytes that are enough for the printout of any file.
@@ -21,51 +21,9 @@ pub fn printout(file: &[u8], out: &mut [u8]) -> usize
     if out.len() < PRINTOUT_BYTES {
         return 0;
     }
-    let mut delays = [0u32; MAX_GATES];
-    let mut activities = [0u32; MAX_GATES];
-    let mut counts = [0u32; MAX_GATES];
-    let mut step_widths = [0u32; MAX_PAIRS];
-    let mut drops = [0u32; MAX_PAIRS];
-    let mut sources = [0u32; MAX_WIRES];
-    let mut targets = [0u32; MAX_WIRES];
-    let mut wire_delays = [0u32; MAX_WIRES];
-    let mut order = [0u32; MAX_GATES];
-    let loaded = load(
-        file,
-        &mut delays,
-        &mut activities,
-        &mut counts,
-        &mut step_widths,
-        &mut drops,
-        &mut sources,
-        &mut targets,
-        &mut wire_delays,
-        &mut order,
-    );
+    let loaded = load(file);
     match loaded {
-        Loaded::Refused(refusal) => print_refusal(refusal, out),
-        Loaded::Sound {
-            gates,
-            wires,
-            arrival,
-            deadline,
-            activity,
-        } => print_held(
-            gates,
-            wires,
-            arrival,
-            deadline,
-            activity,
-            &delays,
-            &activities,
-            &counts,
-            &step_widths,
-            &drops,
-            &sources,
-            &targets,
-            &wire_delays,
-            &order,
-            out,
-        ),
+        Err(refusal) => print_refusal(refusal, out),
+        Ok(block) => print_held(&block, out),
     }
 }

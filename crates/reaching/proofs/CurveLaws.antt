@@ -4,13 +4,13 @@ use mathlib.Core.Path.{◌≡◌, sym, ◌∙◌, ap}
 use mathlib.Core.List.{List, [], ◌∷◌, map}
 use Prim.Native.Nat.{ℕ, ◌≤◌, ◌<◌}
 use native.Mathlib.Omega.{arith}
+use Rattle.std.specs.Prelude.{Result, Ok, Err}
 use lib.ListN.{length, get_or, replicate, length-map, length-replicate, get_or-map}
 use lib.Seq.{ext_get_or}
 use Rattle.lists.specs.Over.{over}
 use Rattle.lists.proofs.Over.{length_build, get_or_build, get_or_over_front}
 use Rattle.model.specs.declared.Refusal.{Refusal}
-use Rattle.model.specs.declared.CurveAnswer.{CurveAnswer}
-use Rattle.model.specs.declared.CurveAnswer.TheVariants.{Given, Refused}
+use Rattle.model.specs.declared.CurveFound.{CurveFound}
 use Rattle.model.specs.Limits.{max_pairs}
 use Rattle.model.specs.Block.{Block}
 use Rattle.model.specs.Part.{SeriesParallel}
@@ -74,7 +74,7 @@ refused_by wanted wide long (well_formed B w (passes f (passes g (passes h (curv
 abbrev zeros : Slices
 zeros = record { for_widths = replicate max_pairs 0; for_gains = replicate max_pairs 0 }
 
-pub curve_known : {file : List ℕ} {found : CurveAnswer} {ws gs : List ℕ}
+pub curve_known : {file : List ℕ} {found : Result CurveFound Refusal} {ws gs : List ℕ}
     → AnswersCurve file zeros (record { answer = curve_answer found; memory = record { for_widths = ws; for_gains = gs } }) × CurveBounds found gs
     → CurveKnown file found ws gs
 curve_known (answers, bounds) =
@@ -82,10 +82,10 @@ curve_known (answers, bounds) =
     record { lent = zeros; widths_long = omega arith; gains_long = omega arith; answers = answers; bounds = bounds }
 
 module _ {file ws gs : List ℕ} where
-  pub known : {s a n : ℕ} → CurveKnown file (Given s a n) ws gs → Known file a (pairs_in n ws gs)
+  pub known : {f : CurveFound} → CurveKnown file (Ok f) ws gs → Known file f.at_start (pairs_in f.pairs ws gs)
   known k = known_by k.widths_long k.gains_long k.answers
 
-  pub passed_on : {x : Refusal} (wanted : ℕ) → CurveKnown file (Refused x) ws gs → AnswersTicks file wanted (record { answer = refusal_answer x; memory = tt })
+  pub passed_on : {x : Refusal} (wanted : ℕ) → CurveKnown file (Err x) ws gs → AnswersTicks file wanted (record { answer = refusal_answer x; memory = tt })
   passed_on {x} wanted k =
       let (n, p, e) = refusal_numbered x in
       rw e (refused_by wanted k.widths_long k.gains_long (rw e at k.answers))

@@ -12,7 +12,8 @@ use Rattle.model.specs.Curve.{Pair, all_ticks, count_off}
 use Rattle.model.specs.InTime.{IsStart}
 use Rattle.model.specs.Slack.{start}
 use Rattle.model.specs.Ticks.{Fewest}
-use Rattle.model.specs.declared.CurveAnswer.TheVariants.{Given}
+use Rattle.std.specs.Prelude.{Ok}
+use Rattle.model.specs.declared.CurveFound.{CurveFound}
 use Rattle.model.specs.Answer.{accepted, refusal, well_formed, fits, passes, fewest, AnswersTicks}
 use Rattle.model.proofs.Limited.{BlockLimits, read_limits}
 use Rattle.model.proofs.Slack.{start_is}
@@ -60,8 +61,8 @@ module _ {file : List ℕ} {at_start : ℕ} {ps : List Pair} (k : Known file at_
   curve_fits bound = omega (arith, count_off_most max_gain ps bound (all_ticks ps), mul-le-mul_right max_gain all_few)
 
 -- so all that the pairs in the slices earn fits
-pub earnings_fit : {file ws gs : List ℕ} {s a n : ℕ} → CurveKnown file (Given s a n) ws gs → count_off (pairs_in n ws gs) (all_ticks (pairs_in n ws gs)) < 2 ^ 64
-earnings_fit {file} {ws} {gs} {s} {a} {n} k = curve_fits (known k) few
+pub earnings_fit : {file ws gs : List ℕ} {f : CurveFound} → CurveKnown file (Ok f) ws gs → count_off (pairs_in f.pairs ws gs) (all_ticks (pairs_in f.pairs ws gs)) < 2 ^ 64
+earnings_fit {file} {ws} {gs} {f} k = curve_fits (known k) few
   where
-    few : (p : Pair) → Memᴰ p (pairs_in n ws gs) → p.gain ≤ max_gain
-    few p m = let (i, l, e) = mem_build n (pair_at ws gs) m in rw e (k.bounds.1 i l)
+    few : (p : Pair) → Memᴰ p (pairs_in f.pairs ws gs) → p.gain ≤ max_gain
+    few p m = let (i, l, e) = mem_build f.pairs (pair_at ws gs) m in rw e (k.bounds.1 i l)

@@ -5,28 +5,23 @@ ghost use Rattle.std.specs.Prelude.{List, ℕ};
 ghost use Rattle.model.specs.Answer.{AnswersTicks, ticks_answer};
 ghost use Rattle.reaching.specs.CurveKnown.{CurveKnown};
 
-use model::{CurveAnswer, Refusal, TicksAnswer};
+use model::{CurveFound, Refusal};
 use saving_curve::reach::{Reach, ticks_for};
 
 // The answer of the fewest ticks by that of the curve, whose pairs stand in front of the two slices: a refusal is passed on.
-pub fn ticks_on_curve(found: CurveAnswer, widths: &[u32], gains: &[u64], wanted: u64) -> TicksAnswer
+pub fn ticks_on_curve(
+    found: Result<CurveFound, Refusal>,
+    widths: &[u32],
+    gains: &[u64],
+    wanted: u64,
+) -> Result<u32, Refusal>
     requires { (file : List ℕ) × CurveKnown file found widths.now gains.now }
     ensures { (file : List ℕ) → CurveKnown file found widths.now gains.now → AnswersTicks file wanted (record { answer = ticks_answer result; memory = tt }) }
 {
-    match found {
-        CurveAnswer::Refused(refusal) => TicksAnswer::Refused(refusal),
-        CurveAnswer::Given {
-            start: _,
-            at_start,
-            pairs,
-        } => {
-            let reach = ticks_for(widths, gains, pairs, at_start, wanted);
-            match reach {
-                Reach::Ticks(ticks) => TicksAnswer::Given {
-                    ticks: ticks as u32,
-                },
-                Reach::Beyond => TicksAnswer::Refused(Refusal::Unreached),
-            }
-        }
+    let curve = found?;
+    let reach = ticks_for(widths, gains, curve.pairs, curve.at_start, wanted);
+    match reach {
+        Reach::Ticks(ticks) => Ok(ticks as u32),
+        Reach::Beyond => Err(Refusal::Unreached),
     }
 }

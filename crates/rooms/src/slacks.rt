@@ -1,42 +1,32 @@
 // Room for the slacks, then the slacks.
 ghost use Rattle.std.specs.Prelude.{List, ℕ};
 ghost use Rattle.model.specs.Answer.{AnswersSlacks, slacks_answer};
-ghost use Rattle.blockfile.specs.Held.{gate_arrays, wire_arrays};
-ghost use Rattle.loading.specs.HeldFile.{HeldFile};
+ghost use Rattle.loading.specs.HeldBlock.{Holds};
 
-use model::{Refusal, SlacksAnswer};
+use loading::block::HeldBlock;
+use model::Refusal;
 use timing::slack::write_slacks;
 
-// The slack of each gate of a well-formed file's block, whose delays and wires are in the arrays, to the front of `out`; or refusal 10.
-pub fn slacks_with_room(
-    n: usize,
-    m: usize,
-    arrival: u32,
-    deadline: u32,
-    delays: &[u32],
-    sources: &[u32],
-    targets: &[u32],
-    wire_delays: &[u32],
-    order: &[u32],
-    out: &mut [i32],
-) -> SlacksAnswer
-    requires { (file : List ℕ) × (activity : ℕ) × (activities : List ℕ) × (counts : List ℕ) × (steps : List ℕ) × (drops : List ℕ) × HeldFile file n m arrival deadline activity (gate_arrays delays.now activities counts steps drops) (wire_arrays sources.now targets.now wire_delays.now) order.now }
-    ensures { (file : List ℕ) (activity : ℕ) (activities counts steps drops : List ℕ) → HeldFile file n m arrival deadline activity (gate_arrays delays.now activities counts steps drops) (wire_arrays sources.now targets.now wire_delays.now) order.now → AnswersSlacks file out.old (record { answer = slacks_answer result; memory = out.new }) }
+// The slack of each gate of a well-formed file's block, to the front of `out`; or refusal 10. Answers how many there are.
+pub fn slacks_with_room(block: &HeldBlock, out: &mut [i32]) -> Result<usize, Refusal>
+    requires { (file : List ℕ) × Holds file block.now }
+    ensures { (file : List ℕ) → Holds file block.now → AnswersSlacks file out.old (record { answer = slacks_answer result; memory = out.new }) }
 {
+    let n = block.gates;
     if out.len() < n {
-        return SlacksAnswer::Refused(Refusal::Room { needed: n });
+        return Err(Refusal::Room { needed: n });
     }
     write_slacks(
         n,
-        m,
-        order,
-        sources,
-        targets,
-        wire_delays,
-        delays,
-        arrival,
-        deadline,
+        block.wires,
+        &block.order,
+        &block.sources,
+        &block.targets,
+        &block.wire_delays,
+        &block.delays,
+        block.arrival,
+        block.deadline,
         out,
     );
-    SlacksAnswer::Given { gates: n }
+    Ok(n)
 }

@@ -1,24 +1,27 @@
 -- `reaching::ticks_on_curve` meets its contract: refusals are passed on, and ticks counted off the curve of the file's block are the fewest. Assumes nothing.
 use native.Mathlib.Omega.{arith}
+use Rattle.std.proofs.lemmas.Result.{err_from_is_err_and}
 use Rattle.reaching.proofs.CurveLaws.{known, passed_on}
 use Rattle.reaching.proofs.TicksLaws.{ticks_beyond, ticks_few, ticks_given, earnings_fit}
 use Rattle.reaching.proofs.ticks_on_curve.Goals as goal
 
+pub returns-in_err-curve : goal.returns-in_err-curve
+returns-in_err-curve c =
+    let p = err_from_is_err_and c.from_residual.result c.from_residual.ensures.1 in
+    rw (p.1, p.2) (λ file k. passed_on _ (rw c.in_err-curve.was at k))
+
 pub ticks_for-reach-requires : goal.ticks_for-reach-requires
 ticks_for-reach-requires c =
-    let k = rw c.in-Given.is at c.requires.1 in
+    let k = rw c.in_ok-curve.was at c.requires.1 in
     (k.bounds.0, earnings_fit k)
 
 pub overflow_cast-result : goal.overflow_cast-result
 overflow_cast-result c =
-    let k = rw c.in-Given.is at c.requires.1 in
+    let k = rw c.in_ok-curve.was at c.requires.1 in
     omega (arith, ticks_few (known k) c.args.wanted (rw c.in-Ticks.is at c.ticks_for-reach.ensures))
 
-pub returns-in-Refused : goal.returns-in-Refused
-returns-in-Refused c = λ file k. passed_on _ (rw c.in-Refused.is at k)
-
 pub returns-in-Ticks : goal.returns-in-Ticks
-returns-in-Ticks c = λ file k. ticks_given (known (rw c.in-Given.is at k)) _ (rw c.in-Ticks.is at c.ticks_for-reach.ensures)
+returns-in-Ticks c = λ file k. ticks_given (known (rw c.in_ok-curve.was at k)) _ (rw c.in-Ticks.is at c.ticks_for-reach.ensures)
 
 pub returns-in-Beyond : goal.returns-in-Beyond
-returns-in-Beyond c = λ file k. ticks_beyond (known (rw c.in-Given.is at k)) (rw c.in-Beyond.is at c.ticks_for-reach.ensures)
+returns-in-Beyond c = λ file k. ticks_beyond (known (rw c.in_ok-curve.was at k)) (rw c.in-Beyond.is at c.ticks_for-reach.ensures)

@@ -1,15 +1,9 @@
--- `resizing::judge::judge` meets its contract: the refusals 1 to 9 as loading finds them, then room and the verdict. Assumes nothing.
-use Rattle.loading.proofs.Refused.{passed_on}
-use Rattle.loading.proofs.HeldFile.{held_file}
+-- `resizing::judge::judge` meets its contract: the refusals 1 to 9 as loading finds them, then what is found of the held block. Assumes nothing.
+use Rattle.loading.proofs.Refused.{passed_up}
 use Rattle.resizing.proofs.judge.judge.Goals as goal
 
-pub judge_held-requires : goal.judge_held-requires
-judge_held-requires c =
-    (c.args.file.now, held_file c.args.file.now _ _ _ _ _ _ _ _ (rw c.in-Sound.is at c.load-loaded.ensures) c.load-loaded.auto.delays c.load-loaded.auto.activities c.load-loaded.auto.counts c.load-loaded.auto.step_widths c.load-loaded.auto.drops c.load-loaded.auto.sources c.load-loaded.auto.targets c.load-loaded.auto.wire_delays c.load-loaded.auto.order)
+pub returns-in_err-block : goal.returns-in_err-block
+returns-in_err-block c = passed_up _ c.from_residual.result c.in_err-block.field-0.0 c.from_residual.ensures.1 c.in_err-block.ensures
 
-pub returns-in-Refused : goal.returns-in-Refused
-returns-in-Refused c = passed_on c.in-Refused.refusal (rw c.in-Refused.is at c.load-loaded.ensures)
-
-pub returns-in-Sound : goal.returns-in-Sound
-returns-in-Sound c =
-    c.judge_held.ensures c.args.file.now (held_file c.args.file.now _ _ _ _ _ _ _ _ (rw c.in-Sound.is at c.load-loaded.ensures) c.load-loaded.auto.delays c.load-loaded.auto.activities c.load-loaded.auto.counts c.load-loaded.auto.step_widths c.load-loaded.auto.drops c.load-loaded.auto.sources c.load-loaded.auto.targets c.load-loaded.auto.wire_delays c.load-loaded.auto.order)
+pub returns : goal.returns
+returns c = c.judge_held.ensures c.args.file.now c.in_ok-block.ensures.0

@@ -1,21 +1,15 @@
 -- `rooms::slacks::slacks_with_room` meets its contract: room, then the slacks. Assumes nothing.
-use Rattle.blockfile.specs.Held.{gate_arrays, wire_arrays}
 use Rattle.loading.proofs.HeldFile.{too_short}
 use Rattle.holding.proofs.HeldLaws.{slackable}
 use Rattle.rooms.proofs.SlacksLaws.{slacks_given}
 use Rattle.rooms.proofs.slacks.slacks_with_room.Goals as goal
 
 pub returns-then-out-n : goal.returns-then-out-n
-returns-then-out-n c =
-    λ file activity activities counts steps drops held.
-    too_short file c.args.n c.args.m c.args.arrival c.args.deadline activity (gate_arrays c.args.delays.now activities counts steps drops)
-    (wire_arrays c.args.sources.now c.args.targets.now c.args.wire_delays.now)
-    c.args.order.now c.args.out.now held.well c.if-out-n.true
+returns-then-out-n c = λ file held. too_short file _ _ _ _ _ _ _ c.args.block.now.order c.args.out.now held.well c.if-out-n.true
 
 pub write_slacks-requires : goal.write_slacks-requires
 write_slacks-requires c =
-    slackable c.requires.6 c.args.out.now c.if-out-n.false
+    slackable c.requires.1 c.args.out.now c.if-out-n.false
 
 pub returns : goal.returns
-returns c =
-    λ file activity activities counts steps drops held. slacks_given held c.args.out.now _ c.if-out-n.false c.write_slacks.ensures
+returns c = λ file held. slacks_given held c.args.out.now _ c.if-out-n.false c.write_slacks.ensures
