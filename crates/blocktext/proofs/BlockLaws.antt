@@ -15,10 +15,9 @@ use Rattle.model.specs.Printout.{head_text, gate_texts, head_lines, gate_line, b
 use Rattle.model.proofs.Signed.{difference_pos}
 use Rattle.blockfile.specs.Held.{GateArrays, WireArrays}
 use Rattle.timing.specs.Slacks.{slack_in}
-use Rattle.timing.specs.Start.{StartIs}
 use Rattle.loading.specs.HeldFile.{HeldFile}
 use Rattle.loading.proofs.Held.{wires_are, delay_is}
-use Rattle.holding.proofs.HeldLaws.{block, count, the_lent, along_all, start_found, slack_is}
+use Rattle.holding.proofs.HeldLaws.{block, count, the_lent, along_all, slack_is}
 use Rattle.text.specs.Numbers.{Natural, Listed, listed_line}
 use Rattle.blocktext.specs.Shown.{Sized}
 use Rattle.blocktext.proofs.InTime.{no_sign}
@@ -32,13 +31,13 @@ same_texts line other (suc n) same = rw (same_texts line other n (λ g l. same g
 module _ {file : List ℕ} {n m arrival deadline activity : ℕ} {G : GateArrays} {W : WireArrays} {order : List ℕ} (h : HeldFile file n m arrival deadline activity G W order) where
   -- the head of the numbers that are handed over is that of the block ..
   head_is : {saved r : ℕ} {increases : List ℕ} → Sized (block h) n saved increases
-      → StartIs n m W.sources W.targets W.delays G.delays r
+      → r ≡ start (block h)
       → head_text n m r (pos (deadline - (arrival + r))) saved ≡ head_lines (block h) (take n increases)
   unfolding spare
   head_is s found =
       let gates_is = count h in
       let wires_is = wires_are file n m arrival deadline activity G W h.well.end h.well.reads in
-      let start_is = start_found h found in
+      let start_is = found in
       let spare_is = difference_pos deadline (arrival + start (block h)) s.in_time in
       cc
 
@@ -61,7 +60,7 @@ module _ {file : List ℕ} {n m arrival deadline activity : ℕ} {G : GateArrays
 
     -- .. and the whole text
     pub text_is : {saved r : ℕ} {increases : List ℕ} → Sized (block h) n saved increases
-        → StartIs n m W.sources W.targets W.delays G.delays r
+        → r ≡ start (block h)
         → head_text n m r (pos (deadline - (arrival + r))) saved ++ gate_texts (listed_line G.delays increases slacks) n
         ≡ block_lines (block h) (take n increases)
     unfolding block_lines
@@ -81,6 +80,6 @@ module _ {file : List ℕ} {n m arrival deadline activity : ℕ} {G : GateArrays
         }
 
   pub spare_fits : {saved r : ℕ} {increases : List ℕ} → Sized (block h) n saved increases
-      → StartIs n m W.sources W.targets W.delays G.delays r
+      → r ≡ start (block h)
       → arrival + r ≤ deadline
-  spare_fits s found = omega (arith, start_found h found, s.in_time)
+  spare_fits s found = omega (arith, found, s.in_time)

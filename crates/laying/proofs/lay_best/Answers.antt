@@ -12,15 +12,15 @@ refused-requires c = let h = gates_most c.requires.1 in omega arith
 
 pub returns-then-increases-needed : goal.returns-then-increases-needed
 returns-then-increases-needed c =
-    record { by_index = λ file held. no_room held c.args.increases.now _ c.refused.ensures (omega (arith, c.if-increases-needed.true)); no_saving_refused = nothing_saved _ c.refused.ensures }
+    record { layout = λ file held. no_room held c.args.increases.now _ c.refused.ensures (omega (arith, c.if-increases-needed.true)); no_saving_refused = nothing_saved _ c.refused.ensures }
 
 pub best_held-best-requires : goal.best_held-best-requires
 best_held-best-requires c =
-    let h = gates_most c.requires.1 in record { by_index = c.requires; n_in_bounds = omega arith }
+    let h = gates_most c.requires.1 in record { held = c.requires; room = omega arith }
 
-pub refused-requires-in-Refused : goal.refused-requires-in-Refused
-refused-requires-in-Refused c =
-    best_place c.requires.1 c.in-Refused.refusal (rw c.in-Refused.is at (c.best_held-best.ensures c.requires.0 c.requires.1))
+pub refused-requires-in-Err : goal.refused-requires-in-Err
+refused-requires-in-Err c =
+    best_place c.requires.1 c.in-Err.refusal (rw c.in-Err.is at (c.best_held-best.ensures c.requires.0 c.requires.1))
 
 pub write_increases-requires : goal.write_increases-requires
 write_increases-requires c = let h = gates_most c.requires.1 in (h, omega arith, omega (arith, c.if-increases-needed.false))
@@ -28,10 +28,10 @@ write_increases-requires c = let h = gates_most c.requires.1 in (h, omega arith,
 pub overflow_cast-result : goal.overflow_cast-result
 overflow_cast-result c = let h = gates_most c.requires.1 in omega arith
 
-pub returns-in-Refused : goal.returns-in-Refused
-returns-in-Refused c =
-    record { by_index = λ file held. best_refused held c.in-Refused.refusal _ c.args.increases.now (omega (arith, c.if-increases-needed.false)) (rw c.in-Refused.is at (c.best_held-best.ensures file held)) c.refused-in-Refused.ensures; no_saving_refused = nothing_saved _ c.refused-in-Refused.ensures }
+pub returns-in-Err : goal.returns-in-Err
+returns-in-Err c =
+    record { layout = λ file held. best_refused held c.in-Err.refusal _ c.args.increases.now (omega (arith, c.if-increases-needed.false)) (rw c.in-Err.is at (c.best_held-best.ensures file held)) c.refused-in-Err.ensures; no_saving_refused = nothing_saved _ c.refused-in-Err.ensures }
 
-pub returns-in-Given : goal.returns-in-Given
-returns-in-Given c =
-    record { by_index = λ file held. best_given held c.in-Given.saving c.in-Given.gates c.args.increases.now _ (omega (arith, c.if-increases-needed.false)) (rw c.in-Given.is at (c.best_held-best.ensures file held)) c.write_increases.ensures; no_saving_refused = λ (refused : _). absurd (refused refl) }
+pub returns-in-Ok : goal.returns-in-Ok
+returns-in-Ok c =
+    record { layout = λ file held. best_given held c.in-Ok.found.saving c.in-Ok.found.gates c.args.increases.now _ (omega (arith, c.if-increases-needed.false)) (rw c.in-Ok.is at (c.best_held-best.ensures file held)) c.write_increases.ensures; no_saving_refused = λ (refused : _). absurd (refused refl) }

@@ -7,14 +7,14 @@ use Rattle.layout.proofs.CallPlaces.{slacks_place, slacks_count}
 use Rattle.layout.proofs.slacks.honduvi_slacks.Goals as goal
 
 pub refused-requires : goal.refused-requires
-refused-requires c = slacks_place c.in-Refused.refusal (rw c.in-Refused.is at c.slacks-answer.ensures)
+refused-requires c = slacks_place c.in-Err.refusal (rw c.in-Err.is at c.slacks-answer.ensures)
 
 pub overflow_cast-written : goal.overflow_cast-written
-overflow_cast-written c = let fits = slacks_count (rw c.in-Given.is at c.slacks-answer.ensures) in search rules
+overflow_cast-written c = let fits = slacks_count (rw c.in-Ok.is at c.slacks-answer.ensures) in search rules
 
-pub returns-in-Refused : goal.returns-in-Refused
-returns-in-Refused c =
-    record { answers_slacks = judged_told c.in-Refused.refusal _ _ c.refused.ensures (rw c.in-Refused.is at c.slacks-answer.ensures); saving_value = ap (λ (a : LayoutAnswer). a.saving) c.refused.ensures }
+pub returns-in-Err : goal.returns-in-Err
+returns-in-Err c =
+    record { answers_slacks = judged_told c.in-Err.refusal _ _ c.refused.ensures (rw c.in-Err.is at c.slacks-answer.ensures); saving_value = ap (λ (a : LayoutAnswer). a.saving) c.refused.ensures }
 
-pub returns-in-Given : goal.returns-in-Given
-returns-in-Given c = record { answers_slacks = rw c.in-Given.is at c.slacks-answer.ensures; saving_value = refl }
+pub returns-in-Ok : goal.returns-in-Ok
+returns-in-Ok c = record { answers_slacks = rw c.in-Ok.is at c.slacks-answer.ensures; saving_value = refl }

@@ -5,11 +5,11 @@ use Rattle.layout.proofs.CallPlaces.{ticks_place}
 use Rattle.layout.proofs.ticks.honduvi_fewest_ticks.Goals as goal
 
 pub refused-numbers-requires : goal.refused-numbers-requires
-refused-numbers-requires c = ticks_place c.in-Refused.refusal (rw c.in-Refused.is at c.fewest_ticks-answer.ensures)
+refused-numbers-requires c = ticks_place c.in-Err.refusal (rw c.in-Err.is at c.fewest_ticks-answer.ensures)
 
-pub returns-in-Refused : goal.returns-in-Refused
-returns-in-Refused c =
-    record { answers_ticks = judged_told c.in-Refused.refusal _ _ c.refused-numbers.ensures (rw c.in-Refused.is at c.fewest_ticks-answer.ensures); unsaid_zero = rw c.refused-numbers.ensures (unsaid_zeros c.in-Refused.refusal 1) }
+pub returns-in-Err : goal.returns-in-Err
+returns-in-Err c =
+    record { answers_ticks = judged_told c.in-Err.refusal _ _ c.refused-numbers.ensures (rw c.in-Err.is at c.fewest_ticks-answer.ensures); unsaid_zero = rw c.refused-numbers.ensures (unsaid_zeros c.in-Err.refusal 1) }
 
-pub returns-in-Given : goal.returns-in-Given
-returns-in-Given c = record { answers_ticks = rw c.in-Given.is at c.fewest_ticks-answer.ensures; unsaid_zero = refl }
+pub returns-in-Ok : goal.returns-in-Ok
+returns-in-Ok c = record { answers_ticks = rw c.in-Ok.is at c.fewest_ticks-answer.ensures; unsaid_zero = refl }
