@@ -14,7 +14,11 @@ use spending::tree::tree_curve;
 
 // The curve of the block, whatever its arrival and deadline: its pairs to the front of the two slices.
 // Public for the crates above only: they have shown that the block is a well-formed file's.
-pub fn curve_held(block: &HeldBlock, widths: &mut [u32], gains: &mut [u64]) -> Result<CurveFound, Refusal>
+pub fn curve_held(
+    block: &HeldBlock,
+    widths: &mut [u32],
+    gains: &mut [u64],
+) -> Result<CurveFound, Refusal>
     requires held { (file : List ℕ) × Holds file block.now }
     requires room { (max_pairs ≤ length widths.old) × (max_pairs ≤ length gains.old) }
     ensures lines { (file : List ℕ) → Holds file block.now → CurveLines (block_in block.now) (record { for_widths = widths.old; for_gains = gains.old }) (record { answer = curve_answer result; memory = record { for_widths = widths.new; for_gains = gains.new } }) }

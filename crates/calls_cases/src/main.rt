@@ -6,7 +6,7 @@ ghost use Rattle.std.specs.Prelude.{◌≡◌, ◌+◌, ◌≤◌, length};
 
 use fields::field::number_at;
 use loading::numbers::numbers_of;
-use model::{JudgeAnswer, Refusal, SlacksAnswer};
+use model::Refusal;
 use reading::read_full;
 use resizing::judge::judge;
 use resizing::slacks::slacks;
@@ -48,11 +48,11 @@ fn print_slacks(rt: &impl Print, xs: &[i32]) -> io::Result<()> {
     Ok(())
 }
 
-fn print_slacks_answer(rt: &impl Print, answer: SlacksAnswer) -> io::Result<()> {
+fn print_slacks_answer(rt: &impl Print, answer: Result<usize, Refusal>) -> io::Result<()> {
     print!(rt; "slacks")?;
     match answer {
-        SlacksAnswer::Refused(refusal) => print_refusal(rt, refusal)?,
-        SlacksAnswer::Given { gates } => print_number(rt, gates as u64)?,
+        Err(refusal) => print_refusal(rt, refusal)?,
+        Ok(gates) => print_number(rt, gates as u64)?,
     }
     print!(rt; " :")
 }
@@ -71,11 +71,11 @@ fn run_slacks(rt: &impl Print, file: &[u8]) -> io::Result<()> {
     end_line(rt)
 }
 
-fn print_judge_answer(rt: &impl Print, answer: JudgeAnswer) -> io::Result<()> {
+fn print_judge_answer(rt: &impl Print, answer: Result<u64, Refusal>) -> io::Result<()> {
     print!(rt; "judge")?;
     match answer {
-        JudgeAnswer::Refused(refusal) => print_refusal(rt, refusal)?,
-        JudgeAnswer::Accepted { saving } => print_number(rt, saving)?,
+        Err(refusal) => print_refusal(rt, refusal)?,
+        Ok(saving) => print_number(rt, saving)?,
     }
     end_line(rt)
 }

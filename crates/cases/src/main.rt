@@ -7,8 +7,8 @@ ghost use Rattle.model.specs.Limits.{max_gates, max_pairs};
 
 use fields::field::{number_at, wide};
 use loading::numbers::numbers_of;
+use model::Refusal;
 use model::limits::{MAX_BYTES, MAX_GATES, MAX_PAIRS};
-use model::{BestAnswer, CurveAnswer, JudgeAnswer, Refusal, SlacksAnswer, TicksAnswer};
 use reading::read_full;
 use resizing::best::best_increases;
 use resizing::curve::curve;
@@ -142,12 +142,12 @@ fn lend_slacks(rt: &impl Print, file: &[u8], lent: usize, out: &mut [i32]) -> io
     let answer = slacks(file, &mut out[..lent]);
     print!(rt; "slacks")?;
     match answer {
-        SlacksAnswer::Refused(refusal) => {
+        Err(refusal) => {
             print_refused(rt, refusal)?;
             print_kept(rt, slacks_marked_from(out, 0))?;
             Ok(0)
         }
-        SlacksAnswer::Given { gates } => {
+        Ok(gates) => {
             print_slacks(rt, out, gates)?;
             print_kept(rt, slacks_marked_from(out, gates))?;
             Ok(gates)
@@ -177,20 +177,16 @@ fn lend_curve(
     let answer = curve(file, &mut widths[..lent_widths], &mut gains[..lent_gains]);
     print!(rt; "curve")?;
     match answer {
-        CurveAnswer::Refused(refusal) => {
+        Err(refusal) => {
             print_refused(rt, refusal)?;
             print_kept(rt, pairs_marked_from(widths, gains, 0))
         }
-        CurveAnswer::Given {
-            start,
-            at_start,
-            pairs,
-        } => {
-            print_u32(rt, start)?;
-            print_number(rt, at_start)?;
-            print_number(rt, pairs as u64)?;
-            print_pairs(rt, widths, gains, pairs)?;
-            print_kept(rt, pairs_marked_from(widths, gains, pairs))
+        Ok(found) => {
+            print_u32(rt, found.start)?;
+            print_number(rt, found.at_start)?;
+            print_number(rt, found.pairs as u64)?;
+            print_pairs(rt, widths, gains, found.pairs)?;
+            print_kept(rt, pairs_marked_from(widths, gains, found.pairs))
         }
     }
 }
@@ -211,16 +207,16 @@ fn lend_best(rt: &impl Print, file: &[u8], lent: usize, list: &mut [u32]) -> io:
     let answer = best_increases(file, &mut list[..lent]);
     print!(rt; "best")?;
     match answer {
-        BestAnswer::Refused(refusal) => {
+        Err(refusal) => {
             print_refused(rt, refusal)?;
             print_kept(rt, marked_from(list, 0))?;
             clear(list);
             Ok(())
         }
-        BestAnswer::Given { saving, gates } => {
-            print_number(rt, saving)?;
-            print_increases(rt, list, gates)?;
-            print_kept(rt, marked_from(list, gates))
+        Ok(found) => {
+            print_number(rt, found.saving)?;
+            print_increases(rt, list, found.gates)?;
+            print_kept(rt, marked_from(list, found.gates))
         }
     }
 }
@@ -243,8 +239,8 @@ fn eight_bytes(s: &[u8], at: usize) -> u64
 fn print_fewest(rt: &impl Print, file: &[u8], wanted: u64) -> io::Result<()> {
     let answer = fewest_ticks(file, wanted);
     match answer {
-        TicksAnswer::Refused(refusal) => print_refusal(rt, refusal),
-        TicksAnswer::Given { ticks } => print_u32(rt, ticks),
+        Err(refusal) => print_refusal(rt, refusal),
+        Ok(ticks) => print_u32(rt, ticks),
     }
 }
 
@@ -264,8 +260,8 @@ fn print_judgement(rt: &impl Print, file: &[u8], list: &[u32]) -> io::Result<()>
     print!(rt; "judge")?;
     let answer = judge(file, list);
     match answer {
-        JudgeAnswer::Refused(refusal) => print_refused(rt, refusal)?,
-        JudgeAnswer::Accepted { saving } => print_number(rt, saving)?,
+        Err(refusal) => print_refused(rt, refusal)?,
+        Ok(saving) => print_number(rt, saving)?,
     }
     end_line(rt)
 }
@@ -286,8 +282,8 @@ fn print_with(
     let answer = judge(file, list);
     list[gate] = held;
     match answer {
-        JudgeAnswer::Refused(refusal) => print_refusal(rt, refusal),
-        JudgeAnswer::Accepted { saving } => print_number(rt, saving),
+        Err(refusal) => print_refusal(rt, refusal),
+        Ok(saving) => print_number(rt, saving),
     }
 }
 

@@ -61,7 +61,7 @@ module _ (file : List ℕ) (n m arrival deadline activity : ℕ) (G : GateArrays
   sound j = (
     record { end = length file; reads = read_as; network = (j the_block arrays_hold).0 },
     order_for (gates_are file n m arrival deadline activity G W (length file) read_as) (wired_joined the_block n m W.sources W.targets arrays_hold)
-    (j the_block arrays_hold).1,
+        (j the_block arrays_hold).1,
   )
 
   pub on_loop : (order : List ℕ) {g : ℕ} → ((B : Block) → InArrays B n m W.sources W.targets → Judged B order (Loop g)) → IllFormed file 8 g

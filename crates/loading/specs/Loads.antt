@@ -1,5 +1,5 @@
 -- The block that the arrays of a loaded file hold, and the number of a refusal.
-use Rattle.std.specs.Prelude.{List, ℕ, get_or}
+use Rattle.std.specs.Prelude.{ℕ, get_or}
 use Rattle.model.specs.declared.Refusal.{Refusal}
 use Rattle.model.specs.Block.{Block}
 use Rattle.model.specs.Answer.{refusal_answer}

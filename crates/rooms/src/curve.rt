@@ -9,7 +9,11 @@ use model::limits::MAX_PAIRS;
 use model::{CurveFound, Refusal};
 
 // The curve of a well-formed file's block: its pairs to the front of the two slices, or refusal 10 or 11.
-pub fn curve_with_room(block: &HeldBlock, widths: &mut [u32], gains: &mut [u64]) -> Result<CurveFound, Refusal>
+pub fn curve_with_room(
+    block: &HeldBlock,
+    widths: &mut [u32],
+    gains: &mut [u64],
+) -> Result<CurveFound, Refusal>
     requires { (file : List ℕ) × Holds file block.now }
     ensures curve { (file : List ℕ) → Holds file block.now → AnswersCurve file (record { for_widths = widths.old; for_gains = gains.old }) (record { answer = curve_answer result; memory = record { for_widths = widths.new; for_gains = gains.new } }) }
     ensures curve_bounds { CurveBounds result gains.new }

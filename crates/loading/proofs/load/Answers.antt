@@ -1,7 +1,6 @@
 -- `loading::load` meets its contract: the file read, then its network judged. Assumes nothing.
-use native.Mathlib.Omega.{arith}
 use Rattle.ranges.proofs.Pairs.{no_marks}
-use Rattle.blockfile.specs.Held.{GateArrays, gate_arrays, WireArrays, wire_arrays}
+use Rattle.blockfile.specs.Held.{gate_arrays, wire_arrays}
 use Rattle.loading.proofs.HeldFile.{held_file}
 use Rattle.loading.proofs.Refused.{wire_room}
 use Rattle.loading.proofs.Loading.{lent_read, sound, on_loop, at_fault}
