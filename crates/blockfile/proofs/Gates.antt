@@ -22,9 +22,9 @@ use Rattle.model.proofs.Bodies.{steps_said}
 use Rattle.model.proofs.Fault.{found_is, faultless_from_0}
 use Rattle.model.proofs.Reading.{read_gates_none, read_gates_more, read_gates_refused}
 use Rattle.model.proofs.Stored as StoredGates
-use Rattle.blockfile.specs.declared.read.FieldRead.TheVariants.{Read, Refused}
+use Rattle.std.specs.Prelude.{Ok, Err}
 use Rattle.fields.specs.Behind.{offset_behind}
-use Rattle.blockfile.specs.Held.{GateArrays, gate_held, gates_held, GateRoom, GateStored, GatesKept}
+use Rattle.blockfile.specs.Held.{GateArrays, gate_held, gates_held, GateStored, GatesKept}
 use Rattle.blockfile.specs.Reads.{GateRead, reading_map, refusing}
 use Rattle.blockfile.proofs.Stores.{kept_all}
 use Rattle.blockfile.proofs.Judged.{Judged, read_not_refused, judged_refused, judged_found}
@@ -41,10 +41,10 @@ gates_same g A =
     }
 
 module _ {s : List ℕ} {o ed n : ℕ} {b : List ℕ} (j : Judged (gate ed) s o n b) (g : ℕ) where
-  pub gate_refused : (A : GateArrays) (x : Refusal) → (n ≡ 0 → ⊥) → refusal_answer x ≡ refusal n o → GateRead s o ed g A A (Refused x)
+  pub gate_refused : (A : GateArrays) (x : Refusal) → (n ≡ 0 → ⊥) → refusal_answer x ≡ refusal n o → GateRead s o ed g A A (Err x)
   gate_refused A x z e = record { reading = ap (reading_map (gate_of ed)) (judged_refused j x z e); kept = gates_same g A; untouched = λ y f. refl }
 
-  pub gate_found : (old new : GateArrays) (a q : ℕ) → n ≡ 0 → a ≡ activity_of ed (number b 2) → GateStored b a g old new → q ≡ offset_behind s o → GateRead s o ed g old new (Read q)
+  pub gate_found : (old new : GateArrays) (a q : ℕ) → n ≡ 0 → a ≡ activity_of ed (number b 2) → GateStored b a g old new → q ≡ offset_behind s o → GateRead s o ed g old new (Ok q)
   gate_found old new a q z active r e = record { reading = rw (judged_found j z, r.stored, active, e); kept = r.kept; untouched = λ x f. absurd (read_not_refused q x f) }
 
 -- what was found or refused before it was seen through f
@@ -93,7 +93,7 @@ few_steps ed s o e =
 
 module _ {ed : ℕ} {s : List ℕ} {p i : ℕ} {A : GateArrays} {o : ℕ} (r : GatesSoFar ed s p i A o) where
   -- one more is read ..
-  pub gates_more : (B : GateArrays) (q : ℕ) → GateRead s o ed i A B (Read q) → GatesSoFar ed s p (i + 1) B q
+  pub gates_more : (B : GateArrays) (q : ℕ) → GateRead s o ed i A B (Ok q) → GatesSoFar ed s p (i + 1) B q
   gates_more B q t =
       let x = map_found (gate_of ed) (read_field (gate ed) s o) (gate_held B i) q t.reading in
       let k = t.kept in
@@ -112,31 +112,10 @@ module _ {ed : ℕ} {s : List ℕ} {p i : ℕ} {A : GateArrays} {o : ℕ} (r : G
       }
 
   -- .. or refused, and then all are
-  pub gates_refused : (n : ℕ) (B : GateArrays) (x : Refusal) → i < n → GateRead s o ed i A B (Refused x) → refusing x ≡ reading_map (map (gate_of ed)) (read_gates ed n s p)
+  pub gates_refused : (n : ℕ) (B : GateArrays) (x : Refusal) → i < n → GateRead s o ed i A B (Err x) → refusing x ≡ reading_map (map (gate_of ed)) (read_gates ed n s p)
   gates_refused n B x h t =
       sym (ap (reading_map (map (gate_of ed))) (read_gates_refused ed s i n p h r.were_read (map_refused (gate_of ed) (read_field (gate ed) s o) (refusal_answer x).number (get_or (refusal_answer x).values 0 0) t.reading)))
 
   -- all are read
   pub gates_all : (n : ℕ) → i ≡ n → found (gates_held A n) o ≡ reading_map (map (gate_of ed)) (read_gates ed n s p)
   gates_all n e = rw (← e, r.were_read, r.held)
-
--- Arrays as long as those that were lent.
-pub record GateLengths (A B : GateArrays) : Type 0 where
-  pub delays : length A.delays ≡ length B.delays
-  pub activities : length A.activities ≡ length B.activities
-  pub counts : length A.counts ≡ length B.counts
-  pub step_widths : length A.step_widths ≡ length B.step_widths
-  pub drops : length A.drops ≡ length B.drops
-
-pub lengths_same : (A : GateArrays) → GateLengths A A
-lengths_same A = record { delays = refl; activities = refl; counts = refl; step_widths = refl; drops = refl }
-
-pub lengths_room : {A B : GateArrays} → GateLengths A B → GateRoom B → GateRoom A
-lengths_room e r =
-    record {
-      delays = rw e.delays r.delays;
-      activities = rw e.activities r.activities;
-      counts = rw e.counts r.counts;
-      step_widths = rw e.step_widths r.step_widths;
-      drops = rw e.drops r.drops;
-    }

@@ -20,9 +20,9 @@ use Rattle.model.proofs.Every.{some_append}
 use Rattle.model.proofs.Fault.{found_inside}
 use Rattle.model.proofs.Reading as Reading
 use Rattle.model.proofs.Stored.{build_more}
-use Rattle.blockfile.specs.declared.read.FieldRead.TheVariants.{Read, Refused}
+use Rattle.std.specs.Prelude.{Ok, Err}
 use Rattle.fields.specs.Behind.{offset_behind}
-use Rattle.blockfile.specs.Held.{WireArrays, wire_arrays, wire_held, wires_held, WireRoom}
+use Rattle.blockfile.specs.Held.{WireArrays, wire_arrays, wire_held, wires_held}
 use Rattle.blockfile.specs.Reads.{WireRead, refusing}
 use Rattle.ranges.specs.Seen.{between, Marks}
 use Rattle.model.proofs.Bodies.{wire_bytes_range}
@@ -44,7 +44,7 @@ two_gates {ed} {n} {ws} {s} {o} {m} {b} j z =
     record { long = l; two = rw l (wire_bytes_range ed).0; source = e.0; target = e.1 }
 
 module _ {s : List ℕ} {o ed n m i : ℕ} {b : List ℕ} {table : List ℕ} (j : (ws : List Wire) → Marks table ws → Judged (wire ed n ws) s o m b) where
-  pub wire_refused : (A : WireArrays) (x : Refusal) → (m ≡ 0 → ⊥) → refusal_answer x ≡ refusal m o → WireRead s o ed n i A A table table (Refused x)
+  pub wire_refused : (A : WireArrays) (x : Refusal) → (m ≡ 0 → ⊥) → refusal_answer x ≡ refusal m o → WireRead s o ed n i A A table table (Err x)
   wire_refused A x z e =
       record {
         reading = λ (ws : List Wire) (h : Marks table ws). judged_refused (j ws h) x z e;
@@ -57,7 +57,7 @@ module _ {s : List ℕ} {o ed n m i : ℕ} {b : List ℕ} {table : List ℕ} (j 
       → ((ws : List Wire) (d : ℕ) → Marks table ws → Marks table' (between (get_or b 0 0) (get_or b 1 0) d ∷ ws))
       → m ≡ 0
       → q ≡ offset_behind s o
-      → WireRead s o ed n i (wire_arrays ss ts ds) (wire_arrays (set ss i x) (set ts i y) (set ds i v)) table table' (Read q)
+      → WireRead s o ed n i (wire_arrays ss ts ds) (wire_arrays (set ss i x) (set ts i y) (set ds i v)) table table' (Ok q)
   wire_found ss ts ds table' x y v q hs ht hd ex ey ev more z eq =
       record {
         reading = λ (ws : List Wire) (h : Marks table ws). rw (held, eq) (sym (judged_found (j ws h) z));
@@ -101,7 +101,7 @@ marks_last table ws w m =
 
 module _ {ed n : ℕ} {s : List ℕ} {p i : ℕ} {A : WireArrays} {table : List ℕ} {o : ℕ} (r : WiresSoFar ed n s p i A table o) where
   -- one more is read
-  pub so_far_more : (B : WireArrays) (table' : List ℕ) (q : ℕ) → o < length s → WireRead s o ed n i A B table table' (Read q) → WiresSoFar ed n s p (i + 1) B table' q
+  pub so_far_more : (B : WireArrays) (table' : List ℕ) (q : ℕ) → o < length s → WireRead s o ed n i A B table table' (Ok q) → WiresSoFar ed n s p (i + 1) B table' q
   so_far_more B table' q h t =
       let k = t.kept in
       let e : read_field (wire ed n (wires_held A i)) s o ≡ found (wire_held B i) q = sym (t.reading (wires_held A i) r.marks) in
@@ -120,7 +120,7 @@ module _ {ed n : ℕ} {s : List ℕ} {p i : ℕ} {A : WireArrays} {table : List 
   count = length_build i (wire_held A)
 
   -- the next is refused, and then all are
-  pub so_far_refused : (B : WireArrays) (table' : List ℕ) (x : Refusal) → i < max_wires → o < length s → WireRead s o ed n i A B table table' (Refused x) → refusing x ≡ read_wires max_wires ed n [] s p
+  pub so_far_refused : (B : WireArrays) (table' : List ℕ) (x : Refusal) → i < max_wires → o < length s → WireRead s o ed n i A B table table' (Err x) → refusing x ≡ read_wires max_wires ed n [] s p
   so_far_refused B table' x l h t =
       sym (Reading.wires_refused ed n s p r.were_read (rw count l) h (sym (t.reading (wires_held A i) r.marks)))
 
@@ -133,15 +133,3 @@ module _ {ed n : ℕ} {s : List ℕ} {p i : ℕ} {A : WireArrays} {table : List 
   so_far_ended l h =
       let e : length s ≡ o = omega (arith, r.inside) in
       rw e (sym (Reading.wires_ended ed n s p r.were_read (rw count l) h))
-
--- Arrays as long as those that were lent.
-pub record WireLengths (A B : WireArrays) : Type 0 where
-  pub sources : length A.sources ≡ length B.sources
-  pub targets : length A.targets ≡ length B.targets
-  pub delays : length A.delays ≡ length B.delays
-
-pub wire_lengths_same : (A : WireArrays) → WireLengths A A
-wire_lengths_same A = record { sources = refl; targets = refl; delays = refl }
-
-pub wire_lengths_room : {A B : WireArrays} → WireLengths A B → WireRoom B → WireRoom A
-wire_lengths_room e r = record { sources = rw e.sources r.sources; targets = rw e.targets r.targets; delays = rw e.delays r.delays }

@@ -11,43 +11,26 @@ ghost use Rattle.blockfile.specs.Reads.{GateRead, WireRead, passing, reading_map
 ghost use Rattle.ranges.specs.Seen.{pairs, Marks};
 
 use crate::store::store_gate;
-use faults::{block_fault, gate_fault, refusal_of, wire_fault};
-use fields::field::{number_at, wide};
-use fields::reader::{due_body, due_field, offset_behind};
+use faults::{block_fault, gate_fault, wire_fault};
+use fields::field::number_at;
+use fields::reader::FieldReader;
 use model::Refusal;
 use model::activity::{ActivityTable, activity_table};
 use model::limits::MAX_WIRES;
 use ranges::edition::{activity_of, wire_delay};
 use ranges::seen::mark;
 
-// A field, or several, were read up to an offset, or refused.
-#[derive(Clone, Copy)]
-enum FieldRead {
-    Read { next: usize },
-    Refused(Refusal),
+// What a block file says of its block beside the gates and wires themselves: how many they are, and the numbers of the block field.
+#[derive(Clone, Copy, Debug, PartialEq, Eq)]
+pub struct BlockHead {
+    pub gates: usize,
+    pub wires: usize,
+    pub arrival: u32,
+    pub deadline: u32,
+    pub activity: u32,
 }
 
-// The wires were read up to the end of the file, or refused.
-#[derive(Clone, Copy)]
-enum WiresRead {
-    Read { wires: usize },
-    Refused(Refusal),
-}
-
-// A block file was read, or refused.
-#[derive(Clone, Copy)]
-pub enum BlockRead {
-    Read {
-        gates: usize,
-        wires: usize,
-        arrival: u32,
-        deadline: u32,
-        activity: u32,
-    },
-    Refused(Refusal),
-}
-
-// The gate field of an edition at an offset, read into place `gate`. After a refusal every array is as it was; after reading, what the arrays hold above the gate is free.
+// The gate field of an edition at an offset, read into place `gate`, and the offset behind it. After a refusal every array is as it was; after reading, what the arrays hold above the gate is free.
 fn read_gate(
     file: &[u8],
     offset: usize,
@@ -59,17 +42,15 @@ fn read_gate(
     step_widths: &mut [u32],
     drops: &mut [u32],
     table: &ActivityTable,
-) -> FieldRead
+) -> Result<usize, Refusal>
     requires gate_lt_max_gates { gate < max_gates }
     requires gate_room { GateRoom (gate_arrays delays.old activities.old counts.old step_widths.old drops.old) }
     requires table_value { table.now ≡ Activity.activities }
     ensures { GateRead file.now offset edition gate (gate_arrays delays.old activities.old counts.old step_widths.old drops.old) (gate_arrays delays.new activities.new counts.new step_widths.new drops.new) result }
 {
-    let body = due_body(file, offset);
-    let fault = gate_fault(due_field(file, offset), body, edition);
-    if fault != 0 {
-        return FieldRead::Refused(refusal_of(fault, offset));
-    }
+    let reader = FieldReader::new(file, offset);
+    let body = reader.body();
+    gate_fault(reader.field(), body, edition).map_err(|fault| fault.at(offset))?;
     store_gate(
         body,
         activity_of(edition, number_at(body, 2), table),
@@ -80,12 +61,10 @@ fn read_gate(
         step_widths,
         drops,
     );
-    FieldRead::Read {
-        next: offset_behind(file, offset),
-    }
+    Ok(reader.behind().offset)
 }
 
-// So many gate fields from an offset on, read into the places from 0 on. After a refusal, and beyond these gates, what the arrays hold is free.
+// So many gate fields from an offset on, read into the places from 0 on, and the offset behind them. After a refusal, and beyond these gates, what the arrays hold is free.
 fn read_gates(
     file: &[u8],
     start: usize,
@@ -97,16 +76,15 @@ fn read_gates(
     step_widths: &mut [u32],
     drops: &mut [u32],
     table: &ActivityTable,
-) -> FieldRead
+) -> Result<usize, Refusal>
     requires gates_le_max_gates { gates ≤ max_gates }
     requires gate_room { GateRoom (gate_arrays delays.old activities.old counts.old step_widths.old drops.old) }
     requires table_value { table.now ≡ Activity.activities }
     ensures { passing result (gates_held (gate_arrays delays.new activities.new counts.new step_widths.new drops.new) gates) ≡ reading_map (map (gate_of edition)) (read_gates edition gates file.now start) }
 {
     let mut offset = start;
-    let mut gate = 0;
-    while gate < gates {
-        let passed = read_gate(
+    for gate in 0..gates {
+        offset = read_gate(
             file,
             offset,
             edition,
@@ -117,21 +95,12 @@ fn read_gates(
             step_widths,
             drops,
             table,
-        );
-        match passed {
-            FieldRead::Refused(_) => {
-                return passed;
-            }
-            FieldRead::Read { next } => {
-                offset = next;
-            }
-        }
-        gate += 1;
+        )?;
     }
-    FieldRead::Read { next: offset }
+    Ok(offset)
 }
 
-// The wire field at an offset, read into place `wire`, after the wires that the table holds. After a refusal every array is as it was; after reading, what the arrays hold above the wire is free.
+// The wire field at an offset, read into place `wire`, after the wires that the table holds, and the offset behind it. After a refusal every array is as it was; after reading, what the arrays hold above the wire is free.
 fn read_wire(
     file: &[u8],
     offset: usize,
@@ -142,27 +111,23 @@ fn read_wire(
     targets: &mut [u32],
     wire_delays: &mut [u32],
     seen: &mut [u8],
-) -> FieldRead
+) -> Result<usize, Refusal>
     requires gates_le_max_gates { (gates ≤ max_gates) × (wire < max_wires) }
     requires wire_room { WireRoom (wire_arrays sources.old targets.old wire_delays.old) }
     requires pairs_in_bounds { (pairs ≤ length seen.old) × ((ws : List Wire) × Marks seen.old ws) }
     ensures { WireRead file.now offset edition gates wire (wire_arrays sources.old targets.old wire_delays.old) (wire_arrays sources.new targets.new wire_delays.new) seen.old seen.new result }
 {
-    let body = due_body(file, offset);
-    let fault = wire_fault(due_field(file, offset), body, edition, gates, seen);
-    if fault != 0 {
-        return FieldRead::Refused(refusal_of(fault, offset));
-    }
-    sources[wire] = wide(body[0]);
-    targets[wire] = wide(body[1]);
+    let reader = FieldReader::new(file, offset);
+    let body = reader.body();
+    wire_fault(reader.field(), body, edition, gates, seen).map_err(|fault| fault.at(offset))?;
+    sources[wire] = u32::from(body[0]);
+    targets[wire] = u32::from(body[1]);
     wire_delays[wire] = wire_delay(edition, body);
     mark(seen, body[0], body[1]);
-    FieldRead::Read {
-        next: offset_behind(file, offset),
-    }
+    Ok(reader.behind().offset)
 }
 
-// The wire fields from an offset on until the bytes end, read into the places from 0 on. After a refusal, and beyond these wires, what the arrays hold is free, and so is the table `seen`, which holds no mark before.
+// The wire fields from an offset on until the bytes end, read into the places from 0 on, and how many they are. After a refusal, and beyond these wires, what the arrays hold is free, and so is the table `seen`, which holds no mark before.
 fn read_wires(
     file: &[u8],
     start: usize,
@@ -172,7 +137,7 @@ fn read_wires(
     targets: &mut [u32],
     wire_delays: &mut [u32],
     seen: &mut [u8],
-) -> WiresRead
+) -> Result<usize, Refusal>
     requires start_in_bounds { (start ≤ length file.now) × (gates ≤ max_gates) }
     requires wire_room { WireRoom (wire_arrays sources.old targets.old wire_delays.old) }
     requires pairs_in_bounds { (pairs ≤ length seen.old) × Marks seen.old [] }
@@ -180,14 +145,11 @@ fn read_wires(
 {
     let mut offset = start;
     let mut wires = 0;
-    loop {
-        if file.len() <= offset {
-            break WiresRead::Read { wires };
-        }
+    while offset < file.len() {
         if wires == MAX_WIRES {
-            break WiresRead::Refused(Refusal::Excess { offset });
+            return Err(Refusal::Excess { offset });
         }
-        let passed = read_wire(
+        offset = read_wire(
             file,
             offset,
             edition,
@@ -197,28 +159,21 @@ fn read_wires(
             targets,
             wire_delays,
             seen,
-        );
-        match passed {
-            FieldRead::Refused(refusal) => {
-                break WiresRead::Refused(refusal);
-            }
-            FieldRead::Read { next } => {
-                offset = next;
-            }
-        }
+        )?;
         wires += 1;
     }
+    Ok(wires)
 }
 
 // What the body of the block field says of a block with so many wires.
-fn block_said(body: &[u8], wires: usize, table: &ActivityTable) -> BlockRead
+fn block_said(body: &[u8], wires: usize, table: &ActivityTable) -> BlockHead
     requires body_len { length body.now ≡ 8 }
     requires table_value { table.now ≡ Activity.activities }
     ensures { result ≡ said_of body.now wires }
 {
     let edition = body[0];
-    BlockRead::Read {
-        gates: body[1] as usize,
+    BlockHead {
+        gates: usize::from(body[1]),
         wires,
         arrival: number_at(body, 2),
         deadline: number_at(body, 4),
@@ -227,6 +182,7 @@ fn block_said(body: &[u8], wires: usize, table: &ActivityTable) -> BlockRead
 }
 
 // A block file read into the arrays: the block that they hold, or the first refusal of 1 to 7. After a refusal, and beyond the gates and wires of the file, what the arrays hold is free, and so is the table `seen`, which holds no mark before.
+// Nine slices, not a struct of them: a struct of `&mut` slices needs a clause on each slice's `ghost_name` in every function that takes it, and one of arrays would ask the callers for more than slices with room.
 pub fn read_block(
     file: &[u8],
     delays: &mut [u32],
@@ -238,49 +194,39 @@ pub fn read_block(
     targets: &mut [u32],
     wire_delays: &mut [u32],
     seen: &mut [u8],
-) -> BlockRead
+) -> Result<BlockHead, Refusal>
     requires gate_room { GateRoom (gate_arrays delays.old activities.old counts.old step_widths.old drops.old) }
     requires wire_room { WireRoom (wire_arrays sources.old targets.old wire_delays.old) }
     requires pairs_in_bounds { (pairs ≤ length seen.old) × Marks seen.old [] }
     ensures { block_passing file.now result (gate_arrays delays.new activities.new counts.new step_widths.new drops.new) (wire_arrays sources.new targets.new wire_delays.new) ≡ read_block file.now }
 {
     let table = activity_table();
-    let body = due_body(file, 0);
-    let fault = block_fault(due_field(file, 0), body);
-    if fault != 0 {
-        return BlockRead::Refused(refusal_of(fault, 0));
-    }
+    let reader = FieldReader::new(file, 0);
+    let body = reader.body();
+    block_fault(reader.field(), body).map_err(|fault| fault.at(0))?;
     let edition = body[0];
     let gates = body[1];
-    let passed = read_gates(
+    let gates_end = read_gates(
         file,
-        offset_behind(file, 0),
+        reader.behind().offset,
         edition,
-        gates as usize,
+        usize::from(gates),
         delays,
         activities,
         counts,
         step_widths,
         drops,
         &table,
-    );
-    match passed {
-        FieldRead::Refused(refusal) => BlockRead::Refused(refusal),
-        FieldRead::Read { next } => {
-            let ended = read_wires(
-                file,
-                next,
-                edition,
-                gates,
-                sources,
-                targets,
-                wire_delays,
-                seen,
-            );
-            match ended {
-                WiresRead::Refused(refusal) => BlockRead::Refused(refusal),
-                WiresRead::Read { wires } => block_said(body, wires, &table),
-            }
-        }
-    }
+    )?;
+    let wires = read_wires(
+        file,
+        gates_end,
+        edition,
+        gates,
+        sources,
+        targets,
+        wire_delays,
+        seen,
+    )?;
+    Ok(block_said(body, wires, &table))
 }

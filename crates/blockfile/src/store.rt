@@ -6,7 +6,7 @@ ghost use Rattle.blockfile.specs.Held.{GateRoom, StepsStored, GateStored, gate_a
 
 use fields::field::number_at;
 use model::limits::MAX_STEPS;
-use ranges::limits::{GATE_BYTES, STEP_BYTES};
+use ranges::limits::{GATE_BYTES, STEP_BYTES, drop_of, width_of};
 
 // Stores the steps of a gate, and answers how many they are.
 pub fn store_steps(steps: &[u8], gate: usize, step_widths: &mut [u32], drops: &mut [u32]) -> u32
@@ -15,15 +15,13 @@ pub fn store_steps(steps: &[u8], gate: usize, step_widths: &mut [u32], drops: &m
     requires max_steps_in_bounds { (max_gates * max_steps ≤ length step_widths.old) × (max_gates * max_steps ≤ length drops.old) }
     ensures { StepsStored steps.now gate result step_widths.old drops.old step_widths.new drops.new }
 {
-    let count = steps.len() / STEP_BYTES;
-    let mut j = 0;
-    while j < count {
-        let place = gate * MAX_STEPS + j;
-        step_widths[place] = number_at(steps, STEP_BYTES * j);
-        drops[place] = number_at(steps, STEP_BYTES * j + 2);
-        j += 1;
+    let (steps, _) = steps.as_chunks::<STEP_BYTES>();
+    let first = gate * MAX_STEPS;
+    for (j, step) in steps.iter().enumerate() {
+        step_widths[first + j] = width_of(step);
+        drops[first + j] = drop_of(step);
     }
-    count as u32
+    steps.len() as u32
 }
 
 // Stores a gate's body, with its net's activity.
@@ -37,7 +35,7 @@ pub fn store_gate(
     step_widths: &mut [u32],
     drops: &mut [u32],
 )
-    requires by_index { (edition : ℕ) × (File.length_fits (File.gate edition) (length body.now) ≡ true) }
+    requires body_len { (edition : ℕ) × (File.length_fits (File.gate edition) (length body.now) ≡ true) }
     requires gate_lt_max_gates { gate < max_gates }
     requires gate_room { GateRoom (gate_arrays delays.old activities.old counts.old step_widths.old drops.old) }
     ensures { GateStored body.now activity gate (gate_arrays delays.old activities.old counts.old step_widths.old drops.old) (gate_arrays delays.new activities.new counts.new step_widths.new drops.new) }

@@ -4,7 +4,7 @@
 
 ghost use Rattle.std.specs.Prelude.{◌≡◌, length};
 
-use blockfile::read::{BlockRead, read_block};
+use blockfile::read::{BlockHead, read_block};
 use fields::field::number_at;
 use model::Refusal;
 use model::limits::{GATES_SQUARED, MAX_BYTES, MAX_GATES, MAX_PAIRS, MAX_WIRES};
@@ -14,33 +14,19 @@ use std::io;
 // Bytes of the input, at most.
 const INPUT_BYTES: usize = 32768;
 
-// Prints a word and two numbers on a line of their own.
-fn print_refusal(rt: &impl Print, number: u64, place: usize) -> io::Result<()> {
-    println!(rt; "refused {number} {place}")
-}
-
-// Prints a space and a number.
-fn print_number(rt: &impl Print, n: u64) -> io::Result<()> {
-    print!(rt; " {n}")
-}
-
-// Prints a space and a wire's delay.
-fn print_delay(rt: &impl Print, ticks: u32) -> io::Result<()> {
-    print_number(rt, ticks as u64)
-}
-
 // Prints a refusal of 1 to 7.
 fn print_file_refusal(rt: &impl Print, refusal: Refusal) -> io::Result<()> {
-    match refusal {
-        Refusal::Short { offset } => print_refusal(rt, 1, offset),
-        Refusal::Tag { offset } => print_refusal(rt, 2, offset),
-        Refusal::Length { offset } => print_refusal(rt, 3, offset),
-        Refusal::Range { offset } => print_refusal(rt, 4, offset),
-        Refusal::Drops { offset } => print_refusal(rt, 5, offset),
-        Refusal::Wire { offset } => print_refusal(rt, 6, offset),
-        Refusal::Excess { offset } => print_refusal(rt, 7, offset),
-        _ => print_refusal(rt, 0, 0),
-    }
+    let (number, place) = match refusal {
+        Refusal::Short { offset } => (1, offset),
+        Refusal::Tag { offset } => (2, offset),
+        Refusal::Length { offset } => (3, offset),
+        Refusal::Range { offset } => (4, offset),
+        Refusal::Drops { offset } => (5, offset),
+        Refusal::Wire { offset } => (6, offset),
+        Refusal::Excess { offset } => (7, offset),
+        _ => (0, 0),
+    };
+    println!(rt; "refused {number} {place}")
 }
 
 // Reads a file and prints the answer, with the delay of the first wire where there is one.
@@ -67,21 +53,19 @@ fn run(rt: &impl Print, file: &[u8]) -> io::Result<()> {
         &mut seen,
     );
     match answer {
-        BlockRead::Refused(refusal) => print_file_refusal(rt, refusal),
-        BlockRead::Read {
-            gates,
-            wires,
-            arrival,
-            deadline,
-            activity,
-        } => {
-            print!(rt; "read {gates}")?;
-            print_number(rt, wires as u64)?;
-            print_number(rt, arrival as u64)?;
-            print_number(rt, deadline as u64)?;
-            print_number(rt, activity as u64)?;
+        Err(refusal) => print_file_refusal(rt, refusal),
+        Ok(
+            BlockHead {
+                gates,
+                wires,
+                arrival,
+                deadline,
+                activity,
+            },
+        ) => {
+            print!(rt; "read {gates} {wires} {arrival} {deadline} {activity}")?;
             if 0 < wires {
-                print_delay(rt, wire_delays[0])?;
+                print!(rt; " {}", wire_delays[0])?;
             }
             println!(rt)
         }
@@ -96,8 +80,8 @@ fn copy(bytes: &[u8], to: &mut [u8]) {
 
 // Puts a byte at a place, if there is one.
 fn change(file: &mut [u8], place: usize, byte: u8) {
-    if place < file.len() {
-        file[place] = byte;
+    if let Some(old) = file.get_mut(place) {
+        *old = byte;
     }
 }
 

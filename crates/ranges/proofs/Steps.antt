@@ -1,20 +1,24 @@
--- The steps of a gate's body, for loops that go by index: all of them pass a test, or one fails it. The steps of 4k bytes are those at 0 to k − 1.
+-- The steps of a gate's body: the steps of 4k bytes are those at 0 to k − 1, and those of the k arrays of four bytes.
 -- Assumes nothing.
-use mathlib.Core.Path.{◌≡◌, sym, subst}
-use mathlib.Core.Bool.{true, false, ◌&&◌}
-use mathlib.Core.List.{List}
-use Prim.Native.Nat.{ℕ, zero, suc, ◌+◌, ◌-◌, ◌/◌, ◌%◌, ◌<◌, ◌≤◌}
-use mathlib.Core.Logic.{⊎_elim}
-use native.Mathlib.Nat.{eq-or-lt_of_le}
+use mathlib.Core.Path.{◌≡◌, refl, sym, subst, ◌∙◌, ap}
+use mathlib.Core.Bool.{Bool, true, false, ◌&&◌}
+use mathlib.Core.List.{List, [], ◌∷◌, map}
+use Prim.Native.Nat.{ℕ, zero, suc, ◌*◌, ◌-◌, ◌/◌, ◌%◌, ◌<◌, ◌≤◌}
+use native.Mathlib.Numerals.{add-one}
 use native.Mathlib.Omega.{arith}
-use lib.Dec.{T, leb, eqb, leb→le, eqb→eq}
-use lib.ListN.{length, take, drop, length-drop}
+use borrow.Author.Tests.{ltb-true, ltb-false}
+use lib.Dec.{T, leb, ltb, eqb, leb→le, eqb→eq}
+use lib.ListN.{length, get_or, take, drop, length-drop}
+use Rattle.std.proofs.Math.ListN.{get_or-map}
+use Rattle.std.specs.Simd.{first_chunks}
+use Rattle.std.specs.List.{list_all, IsAllAdjacentAnswer}
 use lib.Seq.{take_all}
 use Rattle.lists.proofs.Bool.{and_left, and_right}
 use Rattle.lists.specs.Over.{build}
-use Rattle.lists.proofs.Over.{length_build, get_or_build}
+use Rattle.lists.proofs.Over.{get_or_build}
 use Rattle.model.specs.File.{gate, length_fits, steps_in, every, step_in_range, falls}
-use Rattle.model.proofs.Every.{every_passes, every_fails}
+use Rattle.model.specs.Block.{Step}
+use Rattle.model.proofs.Every.{every_map}
 use Rattle.model.proofs.Steps.{steps_by_index, falls_passes, falls_fails}
 use Rattle.ranges.specs.Kinds.{step_of}
 
@@ -22,40 +26,62 @@ module _ (b : List ℕ) (e : length b % 4 ≡ 0) where
   pub by_index : steps_in b ≡ build (length b / 4) (step_of b)
   by_index = steps_by_index b (length b / 4) (omega arith)
 
-  pub ranges_pass : ((i : ℕ) → i < length b / 4 → step_in_range (step_of b i) ≡ true) → every step_in_range (steps_in b) ≡ true
-  ranges_pass p = rw by_index (every_passes step_in_range (length b / 4) (step_of b) p)
-
-  pub ranges_fail : (i : ℕ) → i < length b / 4 → step_in_range (step_of b i) ≡ false → every step_in_range (steps_in b) ≡ false
-  ranges_fail i h p =
-      rw by_index
-      (every_fails step_in_range (build (length b / 4) (step_of b)) i (step_of b 0) (rw (length_build (length b / 4) (step_of b)) h)
-      (rw (get_or_build (length b / 4) (step_of b) i (step_of b 0) h) p))
-
   pub drops_pass : ((i : ℕ) → suc i < length b / 4 → (step_of b (suc i)).drop < (step_of b i).drop) → falls (steps_in b) ≡ true
   drops_pass p = rw by_index (falls_passes (length b / 4) (step_of b) p)
 
   pub drops_fail : (i : ℕ) → suc i < length b / 4 → (step_of b i).drop ≤ (step_of b (suc i)).drop → falls (steps_in b) ≡ false
   drops_fail i h p = rw by_index (falls_fails (length b / 4) (step_of b) i h p)
 
-  -- the same at the later of the two steps
-  pub drops_fail_at : (j : ℕ) → 1 ≤ j → j < length b / 4 → (step_of b (j - 1)).drop ≤ (step_of b j).drop → falls (steps_in b) ≡ false
-  drops_fail_at zero g h p = absurd (omega arith)
-  drops_fail_at (suc i) g h p =
-      let z : suc i - 1 ≡ i = omega arith in
-      drops_fail i h (rw z at p)
+-- THE STEPS AS ARRAYS of four bytes, as the code takes them.
+abbrev pub step_in : List ℕ → Step
+step_in four = step_of four 0
 
--- one more drop is below the one before
-pub drops_more : (b : List ℕ) (j : ℕ) → 1 ≤ j
-    → ((i : ℕ) → suc i < j → (step_of b (suc i)).drop < (step_of b i).drop)
-    → (step_of b j).drop < (step_of b (j - 1)).drop
-    → (i : ℕ) → suc i < j + 1 → (step_of b (suc i)).drop < (step_of b i).drop
-drops_more b zero g p q i h = absurd (omega arith)
-drops_more b (suc k) g p q i h =
-    let z : suc k - 1 ≡ k = omega arith in
-    let q' : (step_of b (suc k)).drop < (step_of b k).drop = rw z at q in
-    ⊎_elim (λ (e : suc i ≡ suc k). subst (λ (n : ℕ). (step_of b (suc n)).drop < (step_of b n).drop) (omega arith) q')
-    (λ (l : suc i < suc k). p i l)
-    (eq-or-lt_of_le (omega arith))
+steps_mapped : (k : ℕ) (b : List ℕ) → length b ≡ 4 * k → steps_in b ≡ map step_in (first_chunks 4 k b)
+unfolding steps_in
+steps_mapped zero [] e = refl
+steps_mapped (suc k) [] e = absurd (omega arith)
+steps_mapped k (a ∷ []) e = absurd (omega arith)
+steps_mapped k (a ∷ b ∷ []) e = absurd (omega arith)
+steps_mapped k (a ∷ b ∷ c ∷ []) e = absurd (omega arith)
+steps_mapped zero (a ∷ b ∷ c ∷ d ∷ rest) e = absurd (omega arith)
+steps_mapped (suc k) (a ∷ b ∷ c ∷ d ∷ rest) e = ap (◌∷◌ (step_of (a ∷ b ∷ c ∷ d ∷ []) 0)) (steps_mapped k rest (omega arith))
+
+every_listed : {A : Type 0} (test : A → Bool) (xs : List A) → every test xs ≡ list_all test xs
+unfolding every
+every_listed test [] = refl
+every_listed test (x ∷ xs) = ap (◌&&◌ (test x)) (every_listed test xs)
+
+-- what `is_sorted_by` answers of the drops
+abbrev pub DropsAnswer : List (List ℕ) → Bool → Type 0
+DropsAnswer fours r = IsAllAdjacentAnswer (λ (x y : List ℕ) (t : Bool). t ≡ ltb (step_in y).drop (step_in x).drop) fours r
+
+module _ (b : List ℕ) (e : length b % 4 ≡ 0) where
+  pub steps_as_arrays : steps_in b ≡ map step_in (first_chunks 4 (length b / 4) b)
+  steps_as_arrays = steps_mapped (length b / 4) b (omega arith)
+
+  pub ranges_as_arrays : list_all (λ (four : List ℕ). step_in_range (step_in four)) (first_chunks 4 (length b / 4) b) ≡ every step_in_range (steps_in b)
+  ranges_as_arrays =
+      rw steps_as_arrays (sym (every_map step_in_range step_in (first_chunks 4 (length b / 4) b) ∙ every_listed (λ (four : List ℕ). step_in_range (step_in four)) (first_chunks 4 (length b / 4) b)))
+
+  pub array_at : (i : ℕ) (d : List ℕ) → i < length b / 4 → step_in (get_or (first_chunks 4 (length b / 4) b) i d) ≡ step_of b i
+  array_at i d h =
+      sym (get_or-map step_in (first_chunks 4 (length b / 4) b) i d)
+      ∙ ap (λ (ss : List Step). get_or ss i (step_in d)) (sym steps_as_arrays ∙ by_index b e)
+      ∙ get_or_build (length b / 4) (step_of b) i (step_in d) h
+
+  drop_at : (i : ℕ) → i < length b / 4 → (step_in (get_or (first_chunks 4 (length b / 4) b) i [])).drop ≡ (step_of b i).drop
+  drop_at i h = ap (λ (s : Step). s.drop) (array_at i [] h)
+
+  pub drops_as_arrays : (r : Bool) → length (first_chunks 4 (length b / 4) b) ≡ length b / 4 → DropsAnswer (first_chunks 4 (length b / 4) b) r → r ≡ falls (steps_in b)
+  drops_as_arrays true l a =
+      sym (drops_pass b e
+      (λ (i : ℕ) (h : suc i < length b / 4).
+      let k : i < length b / 4 = omega arith in
+      rw (← drop_at i k, ← drop_at (suc i) h) (ltb-true _ _ (sym (rw (add-one i) at (a i [] (omega arith)))))))
+  drops_as_arrays false l a =
+      let h : suc a.0 < length b / 4 = omega arith in
+      let k : a.0 < length b / 4 = omega arith in
+      sym (drops_fail b e a.0 h (rw (← drop_at a.0 k, ← drop_at (suc a.0) h) (ltb-false _ _ (sym (rw (add-one a.0) at (a.2 []))))))
 
 -- the lengths of a gate's body
 pub record GateLength (l : ℕ) : Type 0 where

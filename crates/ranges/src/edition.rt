@@ -35,9 +35,10 @@ pub fn wire_delay(edition: u8, body: &[u8]) -> u32
     ensures { result ≡ delay_in edition body.now }
 {
     if edition < WIRE_DELAYS {
-        return 0;
+        0
+    } else {
+        number_at(body, 2)
     }
-    number_at(body, 2)
 }
 
 // The greatest number for a net's switching: a probability or an activity.
@@ -57,7 +58,8 @@ pub fn activity_of(edition: u8, switching: u32, table: &ActivityTable) -> u32
     ensures { result ≡ activity_of edition switching }
 {
     if edition < ACTIVITIES {
-        return activity_in(table, switching);
+        activity_in(table, switching)
+    } else {
+        switching
     }
-    switching
 }

@@ -1,6 +1,6 @@
 // Tags, lengths and ranges of the fields. They stand here and nowhere else in the code, but for what differs by edition (`edition`) and the numbers of gates, steps and wires (`model::limits`).
 // Public for `faults` and `blockfile` alone.
-ghost use Rattle.std.specs.Prelude.{◌≡◌, true, [], ℕ, ◌+◌, ◌*◌, ◌≤◌, ◌%◌, length};
+ghost use Rattle.std.specs.Prelude.{◌≡◌, true, [], ℕ, ◌%◌, length};
 ghost use Rattle.model.specs.Edition.{wire_bytes};
 ghost use Rattle.model.specs.File.{block, gate, wire, tag_of, length_fits, says, in_range, step_in_range, every, steps_in, falls};
 ghost use Rattle.ranges.specs.Kinds.{kind, step_of};
@@ -34,14 +34,27 @@ pub enum Due {
     Wire { edition: u8 },
 }
 
-// The tag of what is due.
-pub fn tag_of(due: Due) -> u8
-    ensures { result ≡ tag_of (kind due) }
-{
-    match due {
-        Due::Block => 1,
-        Due::Gate { edition: _ } => 2,
-        Due::Wire { edition: _ } => 3,
+impl Due {
+    // The tag of what is due.
+    pub fn tag(self) -> u8
+        ensures { result ≡ tag_of (kind self) }
+    {
+        match self {
+            Due::Block => 1,
+            Due::Gate { .. } => 2,
+            Due::Wire { .. } => 3,
+        }
+    }
+
+    // Whether the body of what is due can have this length.
+    pub fn length_fits(self, length: usize) -> bool
+        ensures { result ≡ length_fits (kind self) length }
+    {
+        match self {
+            Due::Block => length == BLOCK_BYTES,
+            Due::Gate { .. } => gate_length_fits(length),
+            Due::Wire { edition } => length == wire_bytes(edition),
+        }
     }
 }
 
@@ -49,24 +62,7 @@ pub fn tag_of(due: Due) -> u8
 pub fn gate_length_fits(length: usize) -> bool
     ensures { (edition : ℕ) → result ≡ length_fits (gate edition) length }
 {
-    if length < GATE_BYTES {
-        return false;
-    }
-    if GATE_BYTES + STEP_BYTES * MAX_STEPS < length {
-        return false;
-    }
-    length % STEP_BYTES == 0
-}
-
-// Whether the body of what is due can have this length.
-pub fn length_fits(due: Due, length: usize) -> bool
-    ensures { result ≡ length_fits (kind due) length }
-{
-    match due {
-        Due::Block => length == BLOCK_BYTES,
-        Due::Gate { edition: _ } => gate_length_fits(length),
-        Due::Wire { edition } => length == wire_bytes(edition),
-    }
+    (GATE_BYTES..=GATE_BYTES + STEP_BYTES * MAX_STEPS).contains(&length) && length % STEP_BYTES == 0
 }
 
 // Whether every number of a block's body is in its range. Arrival and deadline are so by their two bytes.
@@ -74,38 +70,32 @@ pub fn block_in_range(body: &[u8]) -> bool
     requires { length body.now ≡ 8 }
     ensures { result ≡ in_range block (says block body.now) }
 {
-    if body[0] < 1 {
-        return false;
-    }
-    if MAX_EDITION < body[0] {
-        return false;
-    }
-    if body[1] < 1 {
-        return false;
-    }
-    if GATES < body[1] {
-        return false;
-    }
-    number_at(body, 6) <= max_switching(body[0])
+    let edition = body[0];
+    let gates = body[1];
+    (1..=MAX_EDITION).contains(&edition)
+        && (1..=GATES).contains(&gates)
+        && number_at(body, 6) <= max_switching(edition)
 }
 
-// Whether step j has a width and a drop in their ranges.
-pub fn step_in_range(steps: &[u8], j: usize) -> bool
-    requires { 4 * j + 4 ≤ length steps.now }
-    ensures { result ≡ step_in_range (step_of steps.now j) }
+// The width of a step.
+pub fn width_of(step: &[u8; STEP_BYTES]) -> u32
+    ensures { result ≡ (step_of step.now 0).width }
 {
-    let width = number_at(steps, STEP_BYTES * j);
-    let drop = number_at(steps, STEP_BYTES * j + 2);
-    if width < 1 {
-        return false;
-    }
-    if MAX_WIDTH < width {
-        return false;
-    }
-    if drop < 1 {
-        return false;
-    }
-    drop <= MAX_DROP
+    number_at(step, 0)
+}
+
+// The drop of a step.
+pub fn drop_of(step: &[u8; STEP_BYTES]) -> u32
+    ensures { result ≡ (step_of step.now 0).drop }
+{
+    number_at(step, 2)
+}
+
+// Whether a step has a width and a drop in their ranges.
+fn step_in_range(step: &[u8; STEP_BYTES]) -> bool
+    ensures { result ≡ step_in_range (step_of step.now 0) }
+{
+    (1..=MAX_WIDTH).contains(&width_of(step)) && (1..=MAX_DROP).contains(&drop_of(step))
 }
 
 // Whether every step has a width and a drop in their ranges.
@@ -113,15 +103,8 @@ pub fn steps_in_range(steps: &[u8]) -> bool
     requires { length steps.now % 4 ≡ 0 }
     ensures { result ≡ every step_in_range (steps_in steps.now) }
 {
-    let count = steps.len() / STEP_BYTES;
-    let mut j = 0;
-    while j < count {
-        if !step_in_range(steps, j) {
-            return false;
-        }
-        j += 1;
-    }
-    true
+    let (steps, _) = steps.as_chunks::<STEP_BYTES>();
+    steps.iter().all(step_in_range)
 }
 
 // Whether every number of a gate's body is in its range.
@@ -129,13 +112,9 @@ pub fn gate_in_range(body: &[u8], edition: u8) -> bool
     requires { length_fits (gate edition) (length body.now) ≡ true }
     ensures { result ≡ in_range (gate edition) (says (gate edition) body.now) }
 {
-    if MAX_DELAY < number_at(body, 0) {
-        return false;
-    }
-    if max_switching(edition) < number_at(body, 2) {
-        return false;
-    }
-    steps_in_range(&body[GATE_BYTES..])
+    number_at(body, 0) <= MAX_DELAY
+        && number_at(body, 2) <= max_switching(edition)
+        && steps_in_range(&body[GATE_BYTES..])
 }
 
 // Whether the drops of the steps fall strictly.
@@ -143,15 +122,8 @@ pub fn drops_fall(steps: &[u8]) -> bool
     requires { length steps.now % 4 ≡ 0 }
     ensures { result ≡ falls (steps_in steps.now) }
 {
-    let count = steps.len() / STEP_BYTES;
-    let mut j = 1;
-    while j < count {
-        if number_at(steps, STEP_BYTES * (j - 1) + 2) <= number_at(steps, STEP_BYTES * j + 2) {
-            return false;
-        }
-        j += 1;
-    }
-    true
+    let (steps, _) = steps.as_chunks::<STEP_BYTES>();
+    steps.is_sorted_by(|before, step| drop_of(step) < drop_of(before))
 }
 
 // Whether a wire's body names two gates below the gate count, and a delay in its range.
@@ -159,11 +131,5 @@ pub fn wire_in_range(body: &[u8], edition: u8, gates: u8) -> bool
     requires { length body.now ≡ wire_bytes edition }
     ensures { result ≡ in_range (wire edition gates []) (says (wire edition gates []) body.now) }
 {
-    if gates <= body[0] {
-        return false;
-    }
-    if gates <= body[1] {
-        return false;
-    }
-    wire_delay(edition, body) <= MAX_WIRE_DELAY
+    body[0] < gates && body[1] < gates && wire_delay(edition, body) <= MAX_WIRE_DELAY
 }

@@ -12,7 +12,7 @@ use model::limits::MAX_GATES;
 pub fn pair_place(source: u8, target: u8) -> usize
     ensures { result ≡ pair_place source target }
 {
-    MAX_GATES * (source as usize) + target as usize
+    MAX_GATES * usize::from(source) + usize::from(target)
 }
 
 // Notes a wire in the table, whatever its delay.
@@ -21,8 +21,7 @@ pub fn mark(seen: &mut [u8], source: u8, target: u8)
     requires source_lt_max_gates { (source < max_gates) × (target < max_gates) }
     ensures { (ws : List Wire) (delay : ℕ) → Marks seen.old ws → Marks seen.new (between source target delay ∷ ws) }
 {
-    let place = pair_place(source, target);
-    seen[place] = 1;
+    seen[pair_place(source, target)] = 1;
 }
 
 // Whether a wire's body joins two gates that none of the wires in the table joined, whatever the delays.
@@ -32,9 +31,5 @@ pub fn is_fresh(body: &[u8], seen: &[u8]) -> bool
     requires pairs_in_bounds { pairs ≤ length seen.now }
     ensures { (ws : List Wire) (delay : ℕ) → Marks seen.now ws → result ≡ fresh ws (between (get_or body.now 0 0) (get_or body.now 1 0) delay) }
 {
-    if body[0] == body[1] {
-        return false;
-    }
-    let place = pair_place(body[0], body[1]);
-    seen[place] == 0
+    body[0] != body[1] && seen[pair_place(body[0], body[1])] == 0
 }

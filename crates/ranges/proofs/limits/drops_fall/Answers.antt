@@ -1,26 +1,17 @@
--- `ranges::limits::drops_fall` meets its contract. The loop's invariant: every drop passed is below the one before.
+-- `ranges::limits::drops_fall` meets its contract: each two steps that follow one another are compared.
 -- Assumes nothing.
-use mathlib.Core.Path.{sym}
-use native.Mathlib.Omega.{arith}
-use Rattle.ranges.proofs.Steps.{drops_pass, drops_fail_at, drops_more}
+use mathlib.Core.Path.{sym, ◌∙◌, ap}
+use mathlib.Core.List.{List}
+use Prim.Native.Nat.{ℕ}
+use lib.Dec.{ltb}
+use lib.ListN.{length}
+use Rattle.std.proofs.Common.{rules, tests}
+use Rattle.std.proofs.lemmas.Fn.{always_returns_same}
+use Rattle.ranges.proofs.Steps.{step_in, drops_as_arrays}
 use Rattle.ranges.proofs.limits.drops_fall.Goals as goal
 
-pub loop-j-init : goal.loop-j-init
-loop-j-init c = (omega arith, λ i h. absurd (omega arith))
-
-pub returns-then-number_at : goal.returns-then-number_at
-returns-then-number_at c =
-    sym (drops_fail_at _ c.requires c.loop-j.j c.loop-j.invariant.0 c.loop-j-test.true (omega arith))
-
-pub overflow_add-j-in-loop-j-2 : goal.overflow_add-j-in-loop-j-2
-overflow_add-j-in-loop-j-2 c = omega arith
-
-pub loop-j-smaller : goal.loop-j-smaller
-loop-j-smaller c = omega arith
-
-pub loop-j-preserved : goal.loop-j-preserved
-loop-j-preserved c =
-    (omega arith, drops_more c.args.steps.now c.loop-j.j c.loop-j.invariant.0 c.loop-j.invariant.1 (omega arith))
-
 pub returns : goal.returns
-returns c = sym (drops_pass _ c.requires (λ i h. c.loop-j.invariant.1 i (omega arith)))
+returns c =
+    let front = c.as_chunks.ensures.front in
+    drops_as_arrays c.args.steps.now c.requires c.is_sorted_by.result (ap length (sym front) ∙ c.as_chunks.ensures.front_len)
+    (rw front at (c.is_sorted_by.ensures.cases (λ (x y : List ℕ). ltb (step_in y).drop (step_in x).drop) (always_returns_same _ _ _ (λ a r q k. search (rules, tests)))))

@@ -1,29 +1,16 @@
--- `ranges::limits::steps_in_range` meets its contract. The loop's invariant: every step passed is in range.
+-- `ranges::limits::steps_in_range` meets its contract: every array of four bytes is tried.
 -- Assumes nothing.
-use mathlib.Core.Path.{sym, ◌∙◌}
-use native.Mathlib.Omega.{arith}
-use borrow.Author.Count.{below_none, below_more}
-use Rattle.ranges.proofs.Steps.{ranges_pass, ranges_fail}
+use mathlib.Core.Path.{◌∙◌}
+use mathlib.Core.List.{List}
+use Prim.Native.Nat.{ℕ}
+use Rattle.std.proofs.Common.{rules, tests}
+use Rattle.std.proofs.lemmas.Iterator.{YieldsList-from_slice}
+use Rattle.std.proofs.lemmas.Iterator.Search.{all_from_yields_List}
+use Rattle.model.specs.File.{step_in_range}
+use Rattle.ranges.proofs.Steps.{step_in, ranges_as_arrays}
 use Rattle.ranges.proofs.limits.steps_in_range.Goals as goal
 
-pub loop-j-init : goal.loop-j-init
-loop-j-init c = (omega arith, below_none _)
-
-pub step_in_range-requires : goal.step_in_range-requires
-step_in_range-requires c = omega arith
-
-pub returns-then-not-step_in_range : goal.returns-then-not-step_in_range
-returns-then-not-step_in_range c =
-    sym (ranges_fail _ c.requires c.loop-j.j c.loop-j-test.true (sym c.step_in_range.ensures ∙ c.if-not-step_in_range.true))
-
-pub overflow_add-j : goal.overflow_add-j
-overflow_add-j c = omega arith
-
-pub loop-j-smaller : goal.loop-j-smaller
-loop-j-smaller c = omega arith
-
-pub loop-j-preserved : goal.loop-j-preserved
-loop-j-preserved c = (omega arith, below_more _ _ c.loop-j.invariant.1 (sym c.step_in_range.ensures ∙ c.if-not-step_in_range.false))
-
 pub returns : goal.returns
-returns c = sym (ranges_pass _ c.requires (λ i h. c.loop-j.invariant.1 i (omega arith)))
+returns c =
+    all_from_yields_List (λ (four : List ℕ). step_in_range (step_in four)) _ _ c.all.result c.all.ensures.ran (YieldsList-from_slice c.as_chunks.result.0.now cc) (λ x b q k. search (rules, tests))
+    ∙ rw c.as_chunks.ensures.front (ranges_as_arrays c.args.steps.now c.requires)

@@ -1,11 +1,7 @@
 -- `ranges::seen::mark` meets its contract: one pair more is marked.
 -- Assumes nothing.
-use native.Mathlib.Omega.{arith}
 use Rattle.ranges.proofs.Pairs.{marks_more}
 use Rattle.ranges.proofs.seen.mark.Goals as goal
 
-pub bounds-seen-place : goal.bounds-seen-place
-bounds-seen-place c = omega arith
-
 pub returns : goal.returns
-returns c = λ ws d m. rw c.pair_place-place.ensures (marks_more _ ws _ _ d c.requires.pairs_in_bounds c.requires.source_lt_max_gates.0 c.requires.source_lt_max_gates.1 m)
+returns c = λ ws d m. rw c.pair_place.ensures (marks_more _ ws _ _ d c.requires.pairs_in_bounds c.requires.source_lt_max_gates.0 c.requires.source_lt_max_gates.1 m)
