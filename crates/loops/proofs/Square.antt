@@ -10,7 +10,7 @@ use native.Mathlib.Decide.{ℕ_discrete}
 use lib.ListN.{length, get_or, set}
 use lib.Seq.{get_or-set_same, get_or-set_other}
 use Rattle.model.specs.Limits.{max_gates}
-use Rattle.loops.specs.Square.{pair_place, Paired, PairMarks, Through, wire, via, Pair, Closing, Closed, PairVisit, joined, passed}
+use Rattle.loops.specs.Square.{pair_place, Paired, PairMarks, Through, wire, via, Pair, Closing, Closed}
 use Rattle.ordering.proofs.Reach.{Reach, step, on, reach_map}
 
 module _ {E : ℕ → ℕ → Type 0} where
@@ -147,7 +147,7 @@ module _ (start : List ℕ) (n : ℕ) (few : n ≤ max_gates) where
                 row = λ y h l t. done_here y (eq-or-lt_of_le (omega arith)) l here t;
               }
 
-          pair_passed : k < n → get_or square (pair_place k b) 0 ≡ 0 → Closing start n k a (b + 1) square
+          pub pair_passed : k < n → get_or square (pair_place k b) 0 ≡ 0 → Closing start n k a (b + 1) square
           pair_passed kn z = pair_more (λ t. from (through_split k t))
             where
               from : Ways k a b ⊎ (Ways k a k × Ways k k b) → Paired square a b
@@ -168,12 +168,11 @@ module _ (start : List ℕ) (n : ℕ) (few : n ≤ max_gates) where
               new x y h l (inl e) = rw (e.0, e.1) here
               new x y h l (inr p) = C.right x y h l p
 
-        pub pair_visited : (square : List ℕ) → Closing start n k a b square → k < n → pair_place a b < length square → Ways (suc k) a k
-            → {square⁺ : List ℕ} → PairVisit k a b square square⁺ → Closing start n k a (b + 1) square⁺
-        pair_visited square C kn long ak (joined p) =
+        pub pair_joined : (square : List ℕ) → Closing start n k a b square → k < n → pair_place a b < length square → Ways (suc k) a k → Paired square k b
+            → Closing start n k a (b + 1) (set square (pair_place a b) 1)
+        pair_joined square C kn long ak p =
             let ways = through_join {k = suc k} {c = k} (omega arith) ak (C.right k b kn second p) in
             pair_more (set square (pair_place a b) 1) (marked square C long ways) (λ t. paired_here square a b long)
-        pair_visited square C kn long ak (passed z) = pair_passed square C kn z
 
 -- With every gate let through, the marks tell which gates reach which.
 module _ (E : ℕ → ℕ → Type 0) (n : ℕ) (joins_gates : (a b : ℕ) → E a b → (a < n) × (b < n)) (start : List ℕ) (M : PairMarks E n start) where

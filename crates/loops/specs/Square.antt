@@ -1,5 +1,5 @@
 -- A square of marks, one for each pair of gates, and which gates lead to which.
-use Rattle.std.specs.Prelude.{◌≡◌, ◌≢◌, List, ℕ, suc, ◌+◌, ◌*◌, ◌<◌, get_or, set}
+use Rattle.std.specs.Prelude.{◌≢◌, List, ℕ, suc, ◌+◌, ◌*◌, ◌<◌, get_or}
 use Rattle.model.specs.Limits.{max_gates}
 
 -- the place of the mark for the pair a, b
@@ -40,8 +40,3 @@ pub record Closing (start : List ℕ) (n k a b : ℕ) (square : List ℕ) : Type
 -- The marks are right and whole once each gate below k is let through.
 abbrev pub Closed : List ℕ → ℕ → ℕ → List ℕ → Type 0
 Closed start n k = PairMarks (Through (Pair n start) k) n
-
--- What is done at the pair a, b: it is marked where the pair k, b is.
-pub data PairVisit (k a b : ℕ) (square : List ℕ) : List ℕ → Type 0 where
-  joined : Paired square k b → PairVisit k a b square (set square (pair_place a b) 1)
-  passed : get_or square (pair_place k b) 0 ≡ 0 → PairVisit k a b square square

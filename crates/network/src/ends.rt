@@ -29,7 +29,7 @@ fn first_faulty(n: usize, ins: &[u8], outs: &[u8]) -> Option<usize>
     requires { (n ≤ length ins.now) × (n ≤ length outs.now) }
     ensures { LowestBelow (Faulty n ins.now outs.now) n result }
 {
-    (0..n).find(|g| faulty(n, *g, ins, outs))
+    (0..n).find(|&g| faulty(n, g, ins, outs))
 }
 
 // The lowest gate at fault with its wires: gate 0 must have no wire in, gate n - 1 none out, every other gate both.

@@ -24,8 +24,8 @@ fn count_wires(m: usize, targets: &[u32], left: &mut [u32])
     requires begun { (g : ℕ) → get_or left.old g 0 ≡ 0 }
     ensures { (g : ℕ) → get_or left.new g 0 ≡ wires_into targets.now m g }
 {
-    for target in &targets[..m] {
-        left[*target as usize] += 1;
+    for &target in &targets[..m] {
+        left[target as usize] += 1;
     }
 }
 

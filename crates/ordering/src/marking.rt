@@ -16,7 +16,7 @@ pub fn mark_keys(m: usize, keys: &[u32], marks: &mut [u8])
     requires to_marks { (i : ℕ) → i < m → get_or keys.now i 0 < length marks.old }
     ensures { (n : ℕ) → ((g : ℕ) → g < n → get_or marks.old g 0 ≡ 0) → Marks (Among keys.now m) n marks.new }
 {
-    for key in &keys[..m] {
-        marks[*key as usize] = 1;
+    for &key in &keys[..m] {
+        marks[key as usize] = 1;
     }
 }

@@ -12,10 +12,10 @@ loop-source-preserved c =
     let turn = zip_turn (take c.args.m c.args.sources.now) (take c.args.m c.args.targets.now) c.loop-source.yielded _ _ c.next.new.self _ (search rules) (search rules) c.loop-source.yielded_by _ c.in-Some.is c.next.ensures.steps in
     let i = length c.loop-source.yielded in
     let below : i < c.args.m = omega (arith, turn.0, length-take c.args.m c.args.sources.now) in
-    let s : c.in-Some.source.now ≡ get_or c.args.sources.now i 0 = turn.2 0 ∙ get_or-take c.args.m c.args.sources.now i 0 below in
-    let t : c.in-Some.target.now ≡ get_or c.args.targets.now i 0 = turn.3 0 ∙ get_or-take c.args.m c.args.targets.now i 0 below in
+    let s : c.in-Some.field-0-0.now ≡ get_or c.args.sources.now i 0 = turn.2 0 ∙ get_or-take c.args.m c.args.sources.now i 0 below in
+    let t : c.in-Some.field-0-1.now ≡ get_or c.args.targets.now i 0 = turn.3 0 ∙ get_or-take c.args.m c.args.targets.now i 0 below in
     let L = c.requires.lent in
     let source = L.source_is_gate i below in
     let target = L.target_is_gate i below in
     rw length-append
-    (pairs_marked c.args.sources.now c.args.targets.now i c.in-Some.source.now c.in-Some.target.now s t max_gates c.loop-source.square L.gates (omega arith) (omega arith) c.loop-source.invariant)
+    (pairs_marked c.args.sources.now c.args.targets.now i _ _ s t max_gates c.loop-source.square L.gates (omega arith) (omega arith) c.loop-source.invariant)
