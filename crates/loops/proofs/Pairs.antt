@@ -1,5 +1,6 @@
 -- The pairs of gates that the wires of the arrays join, marked in the square one after another; and the lowest gate on a loop, once every gate is let through.
 -- Assumes nothing.
+use Rattle.std.proofs.Common.{Option}
 use mathlib.Core.Path.{◌≡◌, refl, sym, ◌∙◌, ap}
 use mathlib.Core.Logic.{◌⊎◌, inl, inr}
 use mathlib.Core.List.{List}
@@ -7,13 +8,13 @@ use Prim.Native.Nat.{ℕ, ◌+◌, ◌≤◌, ◌<◌}
 use native.Mathlib.Nat.{not-suc-le-zero, eq-or-lt_of_le}
 use native.Mathlib.Omega.{arith}
 use lib.ListN.{length, get_or, set}
+use Rattle.lists.specs.Search.{LowestBelow}
 use Rattle.model.specs.Limits.{max_gates}
 use Rattle.model.specs.Block.{Block}
 use Rattle.model.specs.Refusal.{OnLoop}
 use Rattle.ordering.specs.Wires.{Lent, Wired, InArrays}
-use Rattle.ordering.specs.Marks.{First}
 use Rattle.loops.specs.Square.{pair_place, square_size, Paired, PairMarks, Closed}
-use Rattle.ordering.proofs.Marks.{first_same}
+use Rattle.ordering.proofs.Marks.{lowest_same}
 use Rattle.ordering.proofs.Wires.{wired_gates, wired_loop, loop_wired}
 use Rattle.loops.proofs.Square.{paired_here, paired_kept, paired_old, marked_reaches, reaching_marked}
 
@@ -78,10 +79,10 @@ module _ (sources targets : List ℕ) where
           stays a b h l (inr w) = paired_kept square s t long a b (M.whole a b h l w)
 
 module _ (B : Block) (n m : ℕ) (sources targets : List ℕ) (I : InArrays B n m sources targets) where
-  -- the first gate whose pair with itself is marked is the lowest on a loop
+  -- the lowest gate whose pair with itself is marked is the lowest on a loop
   pub first_on_loop : Lent n m sources targets → (start square : List ℕ) → PairMarks (Wired m sources targets) n start → Closed start n n square
-      → (r : ℕ) → First (λ (g : ℕ). Paired square g g) n r → First (OnLoop B) n r
+      → (r : Option ℕ) → LowestBelow (λ (g : ℕ). Paired square g g) n r → LowestBelow (OnLoop B) n r
   first_on_loop L start square M C =
-      first_same (λ (g : ℕ). Paired square g g) (OnLoop B) n
+      lowest_same (λ (g : ℕ). Paired square g g) (OnLoop B) n
       (λ g h p. wired_loop B n m sources targets I g (marked_reaches (Wired m sources targets) n (wired_gates L) start M square C g g h h p))
       (λ g h x. reaching_marked (Wired m sources targets) n (wired_gates L) start M square C g g h h (loop_wired B n m sources targets I g x))

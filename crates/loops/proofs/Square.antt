@@ -10,8 +10,7 @@ use native.Mathlib.Decide.{ℕ_discrete}
 use lib.ListN.{length, get_or, set}
 use lib.Seq.{get_or-set_same, get_or-set_other}
 use Rattle.model.specs.Limits.{max_gates}
-use Rattle.ordering.specs.Marks.{First}
-use Rattle.loops.specs.Square.{pair_place, Paired, PairMarks, Through, wire, via, Pair, Closing, Closed, PairVisit, joined, passed, SelfVisit, found_before, unmarked, found_now}
+use Rattle.loops.specs.Square.{pair_place, Paired, PairMarks, Through, wire, via, Pair, Closing, Closed}
 use Rattle.ordering.proofs.Reach.{Reach, step, on, reach_map}
 
 module _ {E : ℕ → ℕ → Type 0} where
@@ -148,7 +147,7 @@ module _ (start : List ℕ) (n : ℕ) (few : n ≤ max_gates) where
                 row = λ y h l t. done_here y (eq-or-lt_of_le (omega arith)) l here t;
               }
 
-          pair_passed : k < n → get_or square (pair_place k b) 0 ≡ 0 → Closing start n k a (b + 1) square
+          pub pair_passed : k < n → get_or square (pair_place k b) 0 ≡ 0 → Closing start n k a (b + 1) square
           pair_passed kn z = pair_more (λ t. from (through_split k t))
             where
               from : Ways k a b ⊎ (Ways k a k × Ways k k b) → Paired square a b
@@ -169,12 +168,11 @@ module _ (start : List ℕ) (n : ℕ) (few : n ≤ max_gates) where
               new x y h l (inl e) = rw (e.0, e.1) here
               new x y h l (inr p) = C.right x y h l p
 
-        pub pair_visited : (square : List ℕ) → Closing start n k a b square → k < n → pair_place a b < length square → Ways (suc k) a k
-            → {square⁺ : List ℕ} → PairVisit k a b square square⁺ → Closing start n k a (b + 1) square⁺
-        pair_visited square C kn long ak (joined p) =
+        pub pair_joined : (square : List ℕ) → Closing start n k a b square → k < n → pair_place a b < length square → Ways (suc k) a k → Paired square k b
+            → Closing start n k a (b + 1) (set square (pair_place a b) 1)
+        pair_joined square C kn long ak p =
             let ways = through_join {k = suc k} {c = k} (omega arith) ak (C.right k b kn second p) in
             pair_more (set square (pair_place a b) 1) (marked square C long ways) (λ t. paired_here square a b long)
-        pair_visited square C kn long ak (passed z) = pair_passed square C kn z
 
 -- With every gate let through, the marks tell which gates reach which.
 module _ (E : ℕ → ℕ → Type 0) (n : ℕ) (joins_gates : (a b : ℕ) → E a b → (a < n) × (b < n)) (start : List ℕ) (M : PairMarks E n start) where
@@ -187,44 +185,3 @@ module _ (E : ℕ → ℕ → Type 0) (n : ℕ) (joins_gates : (a b : ℕ) → E
     where
       pair : (x y : ℕ) → E x y → Pair n start x y
       pair x y e = let j = joins_gates x y e in record { first = j.0; second = j.1; mark = M.whole x y j.0 j.1 e }
-
--- The search for the lowest gate whose pair with itself is marked: the gates below g are passed, and r is the lowest of them, or n.
-pub record Searched (square : List ℕ) (n g r : ℕ) : Type 0 where
-  pub within : r ≤ n
-  pub found : r < n → (r < g) × Paired square r r
-  pub none_below : (q : ℕ) → q < g → q < r → ¬ (Paired square q q)
-
-pub none_searched : (square : List ℕ) (n : ℕ) → Searched square n 0 n
-none_searched square n = record { within = omega arith; found = λ h. absurd (omega arith); none_below = λ q h. absurd (not-suc-le-zero h) }
-
-pub all_searched : (square : List ℕ) (n r : ℕ) → Searched square n n r → First (λ (g : ℕ). Paired square g g) n r
-all_searched square n r S =
-    record {
-      within = S.within;
-      found = λ h. (S.found h).1;
-      none_below = λ q h. let w = S.within in S.none_below q (omega arith) h;
-    }
-
-module _ (square : List ℕ) (n g : ℕ) (gate : g < n) where
-  passed_on : (r : ℕ) → Searched square n g r → (¬ (Paired square g g)) ⊎ (r < n) → Searched square n (g + 1) r
-  passed_on r S why =
-      record {
-        within = S.within;
-        found = λ h. (let l = (S.found h).0 in omega arith, (S.found h).1);
-        none_below = λ q h l. none q l why (eq-or-lt_of_le (omega arith));
-      }
-    where
-      none : (q : ℕ) → q < r → (¬ (Paired square g g)) ⊎ (r < n) → (q ≡ g) ⊎ (q < g) → ¬ (Paired square q q)
-      none q l (inl u) (inl e) = rw e u
-      none q l (inr h) (inl e) = let k = (S.found h).0 in absurd (omega arith)
-      none q l w (inr k) = S.none_below q k l
-
-  pub self_visited : (found : ℕ) → Searched square n g found → {r : ℕ} → SelfVisit n g found square r → Searched square n (g + 1) r
-  self_visited found S (found_before h) = passed_on found S (inr h)
-  self_visited found S (unmarked z) = passed_on found S (inl (λ p. p z))
-  self_visited found S (found_now h p) =
-      record {
-        within = omega arith;
-        found = λ l. (omega arith, p);
-        none_below = λ q k l. S.none_below q l (omega arith);
-      }

@@ -1,5 +1,5 @@
 -- A square of marks, one for each pair of gates, and which gates lead to which.
-use Rattle.std.specs.Prelude.{◌≡◌, ◌≢◌, List, ℕ, suc, ◌+◌, ◌*◌, ◌≤◌, ◌<◌, get_or, set}
+use Rattle.std.specs.Prelude.{◌≢◌, List, ℕ, suc, ◌+◌, ◌*◌, ◌<◌, get_or}
 use Rattle.model.specs.Limits.{max_gates}
 
 -- the place of the mark for the pair a, b
@@ -40,14 +40,3 @@ pub record Closing (start : List ℕ) (n k a b : ℕ) (square : List ℕ) : Type
 -- The marks are right and whole once each gate below k is let through.
 abbrev pub Closed : List ℕ → ℕ → ℕ → List ℕ → Type 0
 Closed start n k = PairMarks (Through (Pair n start) k) n
-
--- What is done at the pair a, b: it is marked where the pair k, b is.
-pub data PairVisit (k a b : ℕ) (square : List ℕ) : List ℕ → Type 0 where
-  joined : Paired square k b → PairVisit k a b square (set square (pair_place a b) 1)
-  passed : get_or square (pair_place k b) 0 ≡ 0 → PairVisit k a b square square
-
--- What a visit to gate g answers, where `found` is the gate found before, or n: the gate found before, or g if there is none and its pair with itself is marked.
-pub data SelfVisit (n g found : ℕ) (square : List ℕ) : ℕ → Type 0 where
-  found_before : found < n → SelfVisit n g found square found
-  unmarked : get_or square (pair_place g g) 0 ≡ 0 → SelfVisit n g found square found
-  found_now : n ≤ found → Paired square g g → SelfVisit n g found square g

@@ -1,20 +1,21 @@
 -- The judgement of a network: an order leaves no loop, the lowest gate of a kind is one gate, and a network has one judgement, which refuses it exactly when a refusal fits.
 -- Assumes nothing.
-use mathlib.Core.Path.{◌≡◌, refl, sym, ap}
+use Rattle.std.proofs.Common.{Option, Some, None, Result, Ok, Err, IsSome}
+use mathlib.Core.Path.{◌≡◌, refl, ap, subst}
 use mathlib.Core.Logic.{◌↔◌}
 use mathlib.Core.Bool.{true}
-use mathlib.Core.List.{List}
+use mathlib.Core.List.{List, []}
 use Prim.Native.Nat.{ℕ, ◌<◌}
+use lib.ListN.{replicate, length-replicate}
 use native.Mathlib.Omega.{arith}
 use native.Mathlib.Decide.{dec_lt}
-use Rattle.lists.specs.Search.{Lowest}
-use Rattle.model.specs.Block.{Block}
+use Rattle.lists.specs.Search.{Lowest, LowestBelow}
+use Rattle.model.specs.declared.Refusal.{Refusal}
+use Rattle.model.specs.declared.Refusal.TheVariants.{Loop, Ends}
+use Rattle.model.specs.Block.{Block, no_gate}
+use Rattle.model.specs.Arrays.{wires_in}
 use Rattle.model.specs.Refusal.{OnLoop, EndFault, SoundNetwork}
-use Rattle.network.specs.declared.Network.{Network}
-use Rattle.network.specs.declared.Network.TheVariants.{Sound, Loop, Ends}
-use Rattle.network.specs.declared.Faults.TheVariants.{Nowhere, At}
 use Rattle.ordering.specs.Wires.{Lent, InArrays}
-use Rattle.ordering.specs.Marks.{First}
 use Rattle.ordering.specs.Order.{OrderFound}
 use Rattle.network.specs.Judged.{FaultFound, Judged}
 use Rattle.ordering.proofs.Reach.{leaves, from_reaches}
@@ -25,23 +26,30 @@ use Rattle.ordering.proofs.OrderOrLoop.{no_loop}
 ordered_no_loop : (B : Block) (order : List ℕ) → OrderFound B order true → (g : ℕ) → ¬ (OnLoop B g)
 ordered_no_loop B order O g r = no_loop O g (from_reaches r)
 
+-- Some block has these gates and wires.
+pub some_block : (n m : ℕ) (sources targets : List ℕ) → (B : Block) × InArrays B n m sources targets
+some_block n m sources targets = (
+  record { arrival = 0; deadline = 0; activity = 0; gates = replicate n no_gate; wires = wires_in m sources targets [] },
+  record { delays = []; gates = length-replicate n no_gate; wires = refl },
+)
+
 module _ (B : Block) (n m : ℕ) (sources targets : List ℕ) (I : InArrays B n m sources targets) (L : Lent n m sources targets) where
   loop_gate : (g : ℕ) → OnLoop B g → g < n
   loop_gate g r = leaves (wired_gates L) (loop_wired B n m sources targets I g r)
 
   -- Where some gate reaches itself, the search has found the lowest.
-  pub lowest_found : (g : ℕ) × OnLoop B g → (r : ℕ) → First (OnLoop B) n r → Lowest (OnLoop B) r
-  lowest_found f r F = record { holds = go (dec_lt r n); none_below = F.none_below }
-    where
-      go : Dec (r < n) → OnLoop B r
-      go (yes h) = F.found h
-      go (no d) = let l = loop_gate f.0 f.1 in absurd (F.none_below f.0 (omega arith) f.1)
+  pub lowest_found : (g : ℕ) × OnLoop B g → (r : Option ℕ) → LowestBelow (OnLoop B) n r → (k : ℕ) → r ≡ Some k → Lowest (OnLoop B) k
+  lowest_found f r F k e = (subst (LowestBelow (OnLoop B) n) e F).1
+
+  pub some_found : (g : ℕ) × OnLoop B g → (r : Option ℕ) → LowestBelow (OnLoop B) n r → IsSome r
+  some_found f (Some r) F = refl
+  some_found f None F = absurd (F f.0 (loop_gate f.0 f.1) f.1)
 
 module _ (B : Block) (order : List ℕ) (O : OrderFound B order true) where
-  pub sound_judged : FaultFound B Nowhere → Judged B order Sound
+  pub sound_judged : FaultFound B None → Judged B order (Ok tt)
   sound_judged none = (record { no_loop = ordered_no_loop B order O; ends = none }, O)
 
-  pub ends_judged : (g : ℕ) → FaultFound B (At g) → Judged B order (Ends g)
+  pub ends_judged : (g : ℕ) → FaultFound B (Some g) → Judged B order (Err (Ends g))
   ends_judged g l = (ordered_no_loop B order O, l)
 
 -- There is one lowest number of a kind.
@@ -54,41 +62,39 @@ lowest_one P a b A C = go (dec_lt a b) (dec_lt b a)
     go (no d) (no e) = omega arith
 
 -- A network has one judgement, whatever order was found.
-pub one_judgement : (B : Block) (o p : List ℕ) (r s : Network) → Judged B o r → Judged B p s → r ≡ s
-one_judgement B o p Sound Sound J K = refl
-one_judgement B o p Sound (Loop h) J K = absurd (J.0.no_loop h K.holds)
-one_judgement B o p Sound (Ends h) J K = absurd (J.0.ends h K.1.holds)
-one_judgement B o p (Loop g) Sound J K = absurd (K.0.no_loop g J.holds)
-one_judgement B o p (Loop g) (Loop h) J K = ap Loop (lowest_one (OnLoop B) g h J K)
-one_judgement B o p (Loop g) (Ends h) J K = absurd (K.0 g J.holds)
-one_judgement B o p (Ends g) Sound J K = absurd (K.0.ends g J.1.holds)
-one_judgement B o p (Ends g) (Loop h) J K = absurd (J.0 h K.holds)
-one_judgement B o p (Ends g) (Ends h) J K = ap Ends (lowest_one (EndFault B) g h J.1 K.1)
-
-sound_not_loop : {p : ℕ} → Sound ≡ Loop p → ⊥
-sound_not_loop e = let z : ◌≡◌ {A = ℕ} 0 1 = cc in omega arith
-
-sound_not_ends : {p : ℕ} → Sound ≡ Ends p → ⊥
-sound_not_ends e = let z : ◌≡◌ {A = ℕ} 0 1 = cc in omega arith
-
-ends_not_loop : {p q : ℕ} → Ends p ≡ Loop q → ⊥
-ends_not_loop e = let z : ◌≡◌ {A = ℕ} 0 1 = cc in omega arith
+pub one_judgement : (B : Block) (o p : List ℕ) (r s : Result (Unit {0}) Refusal) → Judged B o r → Judged B p s → r ≡ s
+one_judgement B o p (Ok _) (Ok _) J K = refl
+one_judgement B o p (Ok _) (Err (Loop h)) J K = absurd (J.0.no_loop h K.holds)
+one_judgement B o p (Ok _) (Err (Ends h)) J K = absurd (J.0.ends h K.1.holds)
+one_judgement B o p (Ok _) (Err _) J K = absurd K
+one_judgement B o p (Err (Loop g)) (Ok _) J K = absurd (K.0.no_loop g J.holds)
+one_judgement B o p (Err (Loop g)) (Err (Loop h)) J K = ap (λ (k : ℕ). Err (Loop k)) (lowest_one (OnLoop B) g h J K)
+one_judgement B o p (Err (Loop g)) (Err (Ends h)) J K = absurd (K.0 g J.holds)
+one_judgement B o p (Err (Loop g)) (Err _) J K = absurd K
+one_judgement B o p (Err (Ends g)) (Ok _) J K = absurd (K.0.ends g J.1.holds)
+one_judgement B o p (Err (Ends g)) (Err (Loop h)) J K = absurd (J.0 h K.holds)
+one_judgement B o p (Err (Ends g)) (Err (Ends h)) J K = ap (λ (k : ℕ). Err (Ends k)) (lowest_one (EndFault B) g h J.1 K.1)
+one_judgement B o p (Err (Ends g)) (Err _) J K = absurd K
+one_judgement B o p (Err _) s J K = absurd J
 
 -- Refusal 8 is answered exactly when some gate reaches itself, ..
-pub loop_refused : (B : Block) (o : List ℕ) (r : Network) → Judged B o r → ((g : ℕ) × OnLoop B g) ↔ ((p : ℕ) × (r ≡ Loop p))
-loop_refused B o Sound J = (λ f. absurd (J.0.no_loop f.0 f.1), λ e. absurd (sound_not_loop e.1))
-loop_refused B o (Loop p) J = (λ f. (p, refl), λ e. (p, J.holds))
-loop_refused B o (Ends p) J = (λ f. absurd (J.0 f.0 f.1), λ e. absurd (ends_not_loop e.1))
+pub loop_refused : (B : Block) (o : List ℕ) (r : Result (Unit {0}) Refusal) → Judged B o r → ((g : ℕ) × OnLoop B g) ↔ ((p : ℕ) × (r ≡ Err (Loop p)))
+loop_refused B o (Ok _) J = (λ f. absurd (J.0.no_loop f.0 f.1), λ (p, e). cc)
+loop_refused B o (Err (Loop p)) J = (λ f. (p, refl), λ e. (p, J.holds))
+loop_refused B o (Err (Ends p)) J = (λ f. absurd (J.0 f.0 f.1), λ (p, e). cc)
+loop_refused B o (Err _) J = absurd J
 
 -- .. refusal 9 exactly when none does and some gate is at fault with its wires, ..
-pub ends_refused : (B : Block) (o : List ℕ) (r : Network) → Judged B o r
-    → (((h : ℕ) → ¬ (OnLoop B h)) × ((g : ℕ) × EndFault B g)) ↔ ((p : ℕ) × (r ≡ Ends p))
-ends_refused B o Sound J = (λ f. absurd (J.0.ends f.1.0 f.1.1), λ e. absurd (sound_not_ends e.1))
-ends_refused B o (Loop p) J = (λ f. absurd (f.0 p J.holds), λ e. absurd (ends_not_loop (sym e.1)))
-ends_refused B o (Ends p) J = (λ f. (p, refl), λ e. (J.0, (p, J.1.holds)))
+pub ends_refused : (B : Block) (o : List ℕ) (r : Result (Unit {0}) Refusal) → Judged B o r
+    → (((h : ℕ) → ¬ (OnLoop B h)) × ((g : ℕ) × EndFault B g)) ↔ ((p : ℕ) × (r ≡ Err (Ends p)))
+ends_refused B o (Ok _) J = (λ f. absurd (J.0.ends f.1.0 f.1.1), λ (p, e). cc)
+ends_refused B o (Err (Loop p)) J = (λ f. absurd (f.0 p J.holds), λ (p, e). cc)
+ends_refused B o (Err (Ends p)) J = (λ f. (p, refl), λ e. (J.0, (p, J.1.holds)))
+ends_refused B o (Err _) J = absurd J
 
 -- .. and neither exactly when the network is sound.
-pub sound_accepted : (B : Block) (o : List ℕ) (r : Network) → Judged B o r → SoundNetwork B ↔ (r ≡ Sound)
-sound_accepted B o Sound J = (λ s. refl, λ e. J.0)
-sound_accepted B o (Loop p) J = (λ s. absurd (s.no_loop p J.holds), λ e. absurd (sound_not_loop (sym e)))
-sound_accepted B o (Ends p) J = (λ s. absurd (s.ends p J.1.holds), λ e. absurd (sound_not_ends (sym e)))
+pub sound_accepted : (B : Block) (o : List ℕ) (r : Result (Unit {0}) Refusal) → Judged B o r → SoundNetwork B ↔ (r ≡ Ok tt)
+sound_accepted B o (Ok _) J = (λ s. refl, λ e. J.0)
+sound_accepted B o (Err (Loop p)) J = (λ s. absurd (s.no_loop p J.holds), λ e. cc)
+sound_accepted B o (Err (Ends p)) J = (λ s. absurd (s.ends p J.1.holds), λ e. cc)
+sound_accepted B o (Err _) J = absurd J

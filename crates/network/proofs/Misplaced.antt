@@ -1,25 +1,25 @@
 -- What the marks of wires in and out tell of a gate is what refusal 9 says of it.
 -- Assumes nothing.
+use Rattle.std.proofs.Common.{Option, Some, None}
 use mathlib.Core.Path.{◌≡◌, refl, sym, ◌∙◌, ap}
 use mathlib.Core.Logic.{◌≢◌, ◌⊎◌, inl, inr, ⊎_elim}
 use mathlib.Core.Bool.{Bool, true, false, not}
 use mathlib.Core.List.{List}
-use Prim.Native.Nat.{ℕ, ◌-◌, ◌≤◌, ◌<◌}
+use Prim.Native.Nat.{ℕ, ◌-◌, ◌<◌}
 use native.Mathlib.Omega.{arith}
 use native.Mathlib.Decide.{ℕ_discrete}
 use lib.Dec.{eqb}
 use lib.ListN.{get_or}
 use borrow.Author.Tests.{eqb-true, eqb-false, not-true, not-false}
-use Rattle.lists.specs.Search.{Says}
+use Rattle.lists.specs.Search.{LowestBelow, Says}
 use Rattle.lists.proofs.Search.{says_by}
 use Rattle.model.specs.Block.{Block, last, Joined}
 use Rattle.model.specs.Refusal.{EndFault, into_first, none_in, out_of_last, none_out}
 use Rattle.ordering.specs.Wires.{Lent, InArrays}
-use Rattle.ordering.specs.Marks.{Marks, Among, First}
+use Rattle.ordering.specs.Marks.{Marks, Among}
 use Rattle.network.specs.Misplaced.{Misplaced, too_many, missing, Faulty}
-use Rattle.network.specs.declared.Faults.TheVariants.{Nowhere, At}
 use Rattle.network.specs.Judged.{FaultFound}
-use Rattle.ordering.proofs.Marks.{first_same}
+use Rattle.ordering.proofs.Marks.{lowest_same}
 use Rattle.ordering.proofs.Wires.{wired_gates, wired_joined, joined_wired}
 
 pub says_or : (P Q : Type 0) (b : Bool) → ¬ P → Says Q b → Says (P ⊎ Q) b
@@ -123,12 +123,10 @@ module _ (B : Block) (n m : ℕ) (sources targets : List ℕ) (I : InArrays B n 
     fault_faulty g h (none_out l d none) =
         inr (says_missing (Among sources m) n outs Out g (n - 1) h (λ e. d (e ∙ last_is)) (λ w. let j = has_out g w in none j.0 j.1))
 
-    first_fault : (r : ℕ) → First (Faulty n ins outs) n r → First (EndFault B) n r
-    first_fault = first_same (Faulty n ins outs) (EndFault B) n faulty_fault fault_faulty
-
-    -- the search's number as the answer
-    pub fault_found : (r : ℕ) → First (Faulty n ins outs) n r → r < n → FaultFound B (At r)
-    fault_found r F h = let G = first_fault r F in record { holds = G.found h; none_below = G.none_below }
-
-    pub no_fault : (r : ℕ) → First (Faulty n ins outs) n r → n ≤ r → FaultFound B Nowhere
-    no_fault r F h = λ g x. let l = fault_gate g x in (first_fault r F).none_below g (omega arith) x
+    -- what the search finds as the answer
+    pub fault_found : (r : Option ℕ) → LowestBelow (Faulty n ins outs) n r → FaultFound B r
+    fault_found r F = go r (lowest_same (Faulty n ins outs) (EndFault B) n faulty_fault fault_faulty r F)
+      where
+        go : (o : Option ℕ) → LowestBelow (EndFault B) n o → FaultFound B o
+        go (Some g) G = G.1
+        go None G = λ g x. G g (fault_gate g x) x

@@ -1,13 +1,11 @@
 // Refusal 9: the lowest gate that has a wire where it must have none, or none where it must have one.
 ghost use Rattle.std.specs.Prelude.{◌≤◌, ◌<◌, length};
-ghost use Rattle.lists.specs.Search.{Says};
+ghost use Rattle.lists.specs.Search.{LowestBelow, Says};
 ghost use Rattle.model.specs.Block.{Block};
 ghost use Rattle.ordering.specs.Wires.{Lent, InArrays};
-ghost use Rattle.ordering.specs.Marks.{First};
 ghost use Rattle.network.specs.Misplaced.{Misplaced, Faulty};
 ghost use Rattle.network.specs.Judged.{FaultFound};
 
-use super::Faults;
 use model::limits::MAX_GATES;
 use ordering::marking::mark_keys;
 
@@ -15,7 +13,7 @@ use ordering::marking::mark_keys;
 fn misplaced(g: usize, end: usize, mark: u8) -> bool
     ensures { Says (Misplaced g end mark) result }
 {
-    if g == end { mark != 0 } else { mark == 0 }
+    (mark != 0) == (g == end)
 }
 
 // Whether gate g of the n gates is at fault with its wires in or with its wires out, as the marks tell.
@@ -23,29 +21,19 @@ fn faulty(n: usize, g: usize, ins: &[u8], outs: &[u8]) -> bool
     requires { (g < n) × (n ≤ length ins.now) × (n ≤ length outs.now) }
     ensures { Says (Faulty n ins.now outs.now g) result }
 {
-    if misplaced(g, 0, ins[g]) {
-        return true;
-    }
-    misplaced(g, n - 1, outs[g])
+    misplaced(g, 0, ins[g]) || misplaced(g, n - 1, outs[g])
 }
 
-// The lowest gate at fault as the marks tell, or n where there is none.
-fn first_faulty(n: usize, ins: &[u8], outs: &[u8]) -> usize
+// The lowest gate at fault as the marks tell.
+fn first_faulty(n: usize, ins: &[u8], outs: &[u8]) -> Option<usize>
     requires { (n ≤ length ins.now) × (n ≤ length outs.now) }
-    ensures { First (Faulty n ins.now outs.now) n result }
+    ensures { LowestBelow (Faulty n ins.now outs.now) n result }
 {
-    let mut g = 0;
-    while g < n {
-        if faulty(n, g, ins, outs) {
-            return g;
-        }
-        g += 1;
-    }
-    g
+    (0..n).find(|&g| faulty(n, g, ins, outs))
 }
 
 // The lowest gate at fault with its wires: gate 0 must have no wire in, gate n - 1 none out, every other gate both.
-pub fn lowest_at_fault(n: usize, m: usize, sources: &[u32], targets: &[u32]) -> Faults
+pub fn lowest_at_fault(n: usize, m: usize, sources: &[u32], targets: &[u32]) -> Option<usize>
     requires { Lent n m sources.now targets.now }
     ensures { (B : Block) → InArrays B n m sources.now targets.now → FaultFound B result }
 {
@@ -53,9 +41,5 @@ pub fn lowest_at_fault(n: usize, m: usize, sources: &[u32], targets: &[u32]) -> 
     let mut outs = [0u8; MAX_GATES];
     mark_keys(m, targets, &mut ins);
     mark_keys(m, sources, &mut outs);
-    let gate = first_faulty(n, &ins, &outs);
-    if gate < n {
-        return Faults::At { gate: gate };
-    }
-    Faults::Nowhere
+    first_faulty(n, &ins, &outs)
 }

@@ -10,28 +10,10 @@ ghost use Rattle.ordering.specs.Wires.{Lent, InArrays};
 ghost use Rattle.ordering.specs.Order.{SameBeyond};
 ghost use Rattle.network.specs.Judged.{Judged};
 
+use ends::lowest_at_fault;
 use loops::lowest_on_loop;
+use model::Refusal;
 use ordering::order_gates;
-
-// Refusal 9 alone.
-#[derive(Clone, Copy)]
-pub(crate) enum Faults {
-    // No gate is at fault with its wires.
-    Nowhere,
-    // The lowest gate at fault.
-    At { gate: usize },
-}
-
-// The judgement of a network.
-#[derive(Clone, Copy)]
-pub enum Network {
-    // Neither refusal fits, and an order of the gates was found.
-    Sound,
-    // 8: the lowest gate on a loop.
-    Loop { gate: usize },
-    // 9: the lowest gate at fault with its wires.
-    Ends { gate: usize },
-}
 
 // Which of the refusals 8 and 9 fits the network first, with its gate; or that none does, and then the first n elements of `order` are an order of its gates.
 pub fn judge_network(
@@ -40,20 +22,18 @@ pub fn judge_network(
     sources: &[u32],
     targets: &[u32],
     order: &mut [u32],
-) -> Network
+) -> Result<(), Refusal>
     requires lent { Lent n m sources.now targets.now }
     requires n_in_bounds { n ≤ length order.old }
     ensures judged { (B : Block) → InArrays B n m sources.now targets.now → Judged B order.new result }
     ensures same_beyond { SameBeyond n order.old order.new }
 {
-    let ordered = order_gates(n, m, sources, targets, order);
-    if !ordered {
-        let gate = lowest_on_loop(n, m, sources, targets);
-        return Network::Loop { gate: gate };
+    if !order_gates(n, m, sources, targets, order) {
+        let gate = lowest_on_loop(n, m, sources, targets).unwrap();
+        return Err(Refusal::Loop { gate });
     }
-    let faults = ends::lowest_at_fault(n, m, sources, targets);
-    match faults {
-        Faults::Nowhere => Network::Sound,
-        Faults::At { gate } => Network::Ends { gate: gate },
+    match lowest_at_fault(n, m, sources, targets) {
+        Some(gate) => Err(Refusal::Ends { gate }),
+        None => Ok(()),
     }
 }

@@ -1,19 +1,17 @@
 -- Marks that are set one after another.
 -- Assumes nothing.
+use Rattle.std.proofs.Common.{Option, Some, None, MatchOption}
 use mathlib.Core.Path.{◌≡◌, sym, ◌∙◌, ap}
 use mathlib.Core.Logic.{◌≢◌, ◌⊎◌, inl, inr}
 use mathlib.Core.List.{List}
-use Prim.Native.Nat.{ℕ, ◌+◌, ◌<◌}
-use native.Mathlib.Nat.{not-suc-le-zero, eq-or-lt_of_le}
+use Prim.Native.Nat.{ℕ, ◌+◌, ◌<◌, ◌≤◌}
+use native.Mathlib.Nat.{eq-or-lt_of_le}
 use native.Mathlib.Omega.{arith}
 use native.Mathlib.Decide.{ℕ_discrete}
 use lib.ListN.{length, get_or, set}
 use lib.Seq.{get_or-set_same, get_or-set_other}
+use Rattle.lists.specs.Search.{LowestBelow}
 use Rattle.ordering.specs.Marks.{Marks, Among, First}
-
--- with no mark set, nothing holds
-pub marks_none : (P : ℕ → Type 0) (n : ℕ) (marks : List ℕ) → ((g : ℕ) → g < n → get_or marks g 0 ≡ 0) → ((g : ℕ) → ¬ (P g)) → Marks P n marks
-marks_none P n marks zeros none = record { right = λ g h d. absurd (d (zeros g h)); whole = λ g h p. absurd (none g p) }
 
 -- where Q is P and x, the mark of x is set
 module _ (P Q : ℕ → Type 0) (n : ℕ) (marks : List ℕ) (x : ℕ) (long : x < length marks) (more : (g : ℕ) → P g → Q g) (here : Q x) (only : (g : ℕ) → Q g → (g ≡ x) ⊎ P g) (M : Marks P n marks) where
@@ -36,9 +34,6 @@ module _ (P Q : ℕ → Type 0) (n : ℕ) (marks : List ℕ) (x : ℕ) (long : x
         whole = λ g h q. whole⁺ g h (ℕ_discrete g x) (only g q);
       }
 
-pub among_none : (keys : List ℕ) (g : ℕ) → ¬ (Among keys 0 g)
-among_none keys g w = not-suc-le-zero w.below
-
 module _ (keys : List ℕ) (i : ℕ) where
   among_more : (g : ℕ) → Among keys i g → Among keys (i + 1) g
   among_more g w = let l = w.below in record { place = w.place; below = omega arith; key = w.key }
@@ -56,6 +51,19 @@ module _ (keys : List ℕ) (i : ℕ) where
       marks_more (Among keys i) (Among keys (i + 1)) n marks x long among_more
       (record { place = i; below = omega arith; key = sym e })
       (λ g w. rw e (among_last g w)) M
+
+-- The lowest number below n at which P holds is the lowest for Q where the two agree below n.
+pub lowest_same : (P Q : ℕ → Type 0) (n : ℕ) → ((g : ℕ) → g < n → P g → Q g) → ((g : ℕ) → g < n → Q g → P g)
+    → (r : Option ℕ) → LowestBelow P n r → LowestBelow Q n r
+lowest_same P Q n to from (Some r) (h, l) = (h, record { holds = to r h l.holds; none_below = λ q b x. l.none_below q b (from q (omega arith) x) })
+lowest_same P Q n to from None none = λ q h x. none q h (from q h x)
+
+-- What a search through the numbers below n finds is the lowest at which P holds.
+pub lowest_searched : (P : ℕ → Type 0) (n : ℕ) (r : Option ℕ)
+    → MatchOption r ((k : ℕ) → 0 ≤ k → k < n → ¬ (P k)) (λ i. (0 ≤ i) × (i < n) × P i × ((k : ℕ) → 0 ≤ k → k < i → ¬ (P k)))
+    → LowestBelow P n r
+lowest_searched P n (Some r) f = (f.1, record { holds = f.2; none_below = λ q b. f.3 q (omega arith) b })
+lowest_searched P n None f = λ q h. f q (omega arith) h
 
 -- A search for P is one for Q where the two agree below n.
 pub first_same : (P Q : ℕ → Type 0) (n : ℕ) → ((g : ℕ) → g < n → P g → Q g) → ((g : ℕ) → g < n → Q g → P g) → (r : ℕ) → First P n r → First Q n r

@@ -19,16 +19,13 @@ use model::limits::{MAX_GATES, MAX_WIRES};
 
 // Counts the wires into each gate.
 fn count_wires(m: usize, targets: &[u32], left: &mut [u32])
-    requires m_le_max_wires { (m ≤ max_wires) × (m ≤ length targets.now) }
-    requires by_index { (i : ℕ) → i < m → get_or targets.now i 0 < length left.old }
-    requires by_index_2 { (g : ℕ) → get_or left.old g 0 ≡ 0 }
+    requires room { (m ≤ max_wires) × (m ≤ length targets.now) }
+    requires to_gates { (i : ℕ) → i < m → get_or targets.now i 0 < length left.old }
+    requires begun { (g : ℕ) → get_or left.old g 0 ≡ 0 }
     ensures { (g : ℕ) → get_or left.new g 0 ≡ wires_into targets.now m g }
 {
-    let mut i = 0;
-    while i < m {
-        let g = at(targets, i);
-        left[g] += 1;
-        i += 1;
+    for &target in &targets[..m] {
+        left[target as usize] += 1;
     }
 }
 
@@ -52,10 +49,8 @@ fn place_free(n: usize, left: &[u32], order: &mut [u32]) -> usize
     ensures { FreePlaced n left.now order.old n order.new result }
 {
     let mut count = 0;
-    let mut g = 0;
-    while g < n {
+    for g in 0..n {
         count = place_if_free(g, left, order, count);
-        g += 1;
     }
     count
 }
@@ -93,6 +88,7 @@ fn pass_gate(
     ensures same_beyond { SameBeyond n order.old order.new }
 {
     let mut count = placed;
+    // A `while`, not a `for`: each wire of the chain names the next.
     let mut next = at(heads, at(order, done));
     while 0 < next {
         count = pass_wire(at(targets, next - 1), left, order, count);
@@ -116,11 +112,12 @@ fn pass_gates(
     requires linked { Linked n m sources.now targets.now heads.now links.now }
     requires n_in_bounds { (n ≤ length left.old) × (n ≤ length order.old) }
     requires counted { Counted n m sources.now targets.now left.old order.old placed 0 m }
-    ensures counted_2 { Counted n m sources.now targets.now left.new order.new result result m }
+    ensures counted { Counted n m sources.now targets.now left.new order.new result result m }
     ensures same_beyond { SameBeyond n order.old order.new }
 {
     let mut count = placed;
     let mut done = 0;
+    // A `while`, not a `for`: `count` grows on the way.
     while done < count {
         count = pass_gate(
             n, m, sources, targets, heads, links, left, order, done, count,

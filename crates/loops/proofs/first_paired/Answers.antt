@@ -1,19 +1,13 @@
--- `loops::first_paired` meets its contract: the gate found is the lowest of those passed.
+-- `loops::first_paired` meets its contract: the search finds the lowest gate whose pair with itself is marked.
 -- Assumes nothing.
-use mathlib.Core.Path.{◌≡◌}
-use native.Mathlib.Omega.{arith}
-use Rattle.loops.proofs.Square.{none_searched, all_searched, self_visited}
+use Rattle.std.proofs.Common.{ℕ, rules, tests}
+use Rattle.std.proofs.lemmas.Iterator.{first_from_Range}
+use Rattle.loops.specs.Square.{Paired}
+use Rattle.ordering.proofs.Marks.{lowest_searched}
 use Rattle.loops.proofs.first_paired.Goals as goal
-
-pub loop-g-init : goal.loop-g-init
-loop-g-init c =
-    (omega arith, none_searched c.args.square.now c.args.n)
-
-pub loop-g-preserved : goal.loop-g-preserved
-loop-g-preserved c =
-    (omega arith, self_visited c.args.square.now c.args.n c.loop-g.g c.loop-g-test.true c.loop-g.found c.loop-g.invariant.1 c.visit_self-found.ensures)
 
 pub returns : goal.returns
 returns c =
-    let e : c.loop-g.g ≡ c.args.n = omega arith in
-    all_searched c.args.square.now c.args.n c.loop-g.found (rw e at c.loop-g.invariant.1)
+    let P = λ (g : ℕ). Paired c.args.square.now g g in
+    lowest_searched P c.args.n c.find.result
+    (first_from_Range _ _ _ _ P (λ g. ¬ (P g)) c.find.ensures.ran (λ x q k. search (rules, tests)) (λ x q k. search (rules, tests)))

@@ -13,21 +13,13 @@ pub chain_wires-requires : goal.chain_wires-requires
 chain_wires-requires c =
     zeros_chainable c.args.sources.now c.requires.lent.gates c.requires.lent.wires c.requires.lent.sources_long c.requires.lent.source_is_gate
 
-pub count_wires-requires : goal.count_wires-requires
-count_wires-requires c =
-    record { m_le_max_wires = (c.requires.lent.wires, c.requires.lent.targets_long); by_index = λ i h. let l = c.requires.lent.target_is_gate i h in omega arith; by_index_2 = zeros max_gates }
-
-pub place_free-free-requires : goal.place_free-free-requires
-place_free-free-requires c =
-    record { n_le_max_gates = c.requires.lent.gates; n_in_bounds = (omega arith, c.requires.n_in_bounds) }
+pub count_wires-requires-clause-begun : goal.count_wires-requires-clause-begun
+count_wires-requires-clause-begun c = zeros max_gates
 
 pub pass_gates-count-requires : goal.pass_gates-count-requires
 pass_gates-count-requires c =
     record { linked = record { lent = c.requires.lent; heads_long = omega arith; links_long = omega arith; chained = c.chain_wires.ensures }; n_in_bounds = (omega arith, omega arith); counted = counted_begins c.requires.lent c.count_wires.ensures c.place_free-free.ensures }
 
-pub shape_of-order : goal.shape_of-order
-shape_of-order c = c.pass_gates-count.auto.order ∙ c.place_free-free.auto.order
-
 pub returns : goal.returns
 returns c =
-    record { order_found = λ B I. order-judged B c.args.n c.args.m c.args.sources.now c.args.targets.now I c.requires.lent c.pass_gates-count.ensures.counted_2; same_beyond = λ k h. c.pass_gates-count.ensures.same_beyond k h ∙ c.place_free-free.ensures.beyond k h }
+    record { order_found = λ B I. order-judged B c.args.n c.args.m c.args.sources.now c.args.targets.now I c.requires.lent c.pass_gates-count.ensures.counted; same_beyond = λ k h. c.pass_gates-count.ensures.same_beyond k h ∙ c.place_free-free.ensures.beyond k h }

@@ -1,14 +1,10 @@
 -- `ordering::pass_gate` meets its contract: each wire of the gate's chain is passed in its turn.
 -- Assumes nothing.
-use mathlib.Core.Path.{◌≡◌}
-use lib.ListN.{length}
 use Rattle.ordering.proofs.Turns.{Turn}
 use Rattle.ordering.proofs.pass_gate.Given as goal
 
 abbrev pub invariant-loop-next : goal.invariant-loop-next
-invariant-loop-next l = (length l.left ≡ length l.initial.left)
-    × (length l.order ≡ length l.initial.order)
-    × Turn l.n l.m l.sources l.targets l.initial.order l.left l.order l.count l.done l.next
+invariant-loop-next l = Turn l.n l.m l.sources l.targets l.initial.order l.left l.order l.count l.done l.next
 
 abbrev pub decreases-loop-next : goal.decreases-loop-next
 decreases-loop-next l = l.next

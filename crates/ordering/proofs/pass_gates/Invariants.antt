@@ -1,17 +1,16 @@
 -- `ordering::pass_gates` meets its contract: each placed gate has its turn.
 -- Assumes nothing.
-use mathlib.Core.Path.{◌≡◌}
-use Prim.Native.Nat.{◌-◌}
-use lib.ListN.{length}
+use Rattle.std.proofs.Common.{◌-◌}
 use Rattle.ordering.specs.Order.{SameBeyond}
 use Rattle.ordering.specs.Counts.{Counted}
 use Rattle.ordering.proofs.pass_gates.Given as goal
 
 abbrev pub invariant-loop-done : goal.invariant-loop-done
-invariant-loop-done l = (length l.left ≡ length l.initial.left)
-    × (length l.order ≡ length l.initial.order)
-    × Counted l.n l.m l.sources l.targets l.left l.order l.count l.done l.m
-    × SameBeyond l.n l.initial.order l.order
+invariant-loop-done l =
+    record {
+      counted : Counted l.n l.m l.sources l.targets l.left l.order l.count l.done l.m;
+      same_beyond : SameBeyond l.n l.initial.order l.order;
+    }
 
 abbrev pub decreases-loop-done : goal.decreases-loop-done
 decreases-loop-done l = l.n - l.done

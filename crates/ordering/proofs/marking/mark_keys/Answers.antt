@@ -1,26 +1,17 @@
--- `ordering::marking::mark_keys` meets its contract: after i turns the marks are those of the first i keys.
+-- `ordering::marking::mark_keys` meets its contract: the marks are those of the keys passed.
 -- Assumes nothing.
-use borrow.Author.Rules.{rules}
-use mathlib.Core.Path.{◌≡◌, refl}
-use native.Mathlib.Omega.{arith}
-use Rattle.ordering.specs.Marks.{Among}
-use Rattle.ordering.proofs.Marks.{marks_none, among_none, among_marked}
+use Rattle.std.proofs.Common.{◌≡◌, ◌<◌, refl, arith, length-take}
+use Rattle.std.proofs.lemmas.List.{get_or-take}
+use Rattle.ordering.proofs.Marks.{among_marked}
 use Rattle.ordering.proofs.marking.mark_keys.Goals as goal
 
-pub loop-i-init : goal.loop-i-init
-loop-i-init c =
-    (omega arith, refl, λ n zeros. marks_none (Among c.args.keys.now 0) n c.args.marks.now zeros (among_none c.args.keys.now))
-
-pub bounds-marks-at : goal.bounds-marks-at
-bounds-marks-at c =
-    omega (arith, c.requires.by_index c.loop-i.i c.loop-i-test.true)
-
-pub loop-i-preserved : goal.loop-i-preserved
-loop-i-preserved c =
-    let long = c.requires.by_index c.loop-i.i c.loop-i-test.true in
-    (omega arith, search rules, λ n zeros. among_marked c.args.keys.now c.loop-i.i n c.loop-i.marks c.at.result c.at.ensures (omega arith) (c.loop-i.invariant.2 n zeros))
+pub loop-key-preserved : goal.loop-key-preserved
+loop-key-preserved c =
+    let below : c.loop-key.key-index < c.args.m = omega (arith, length-take c.args.m c.args.keys.now, c.requires.m_in_bounds) in
+    rw (get_or-take c.args.m c.args.keys.now c.loop-key.key-index 0 below)
+    (λ n zeros. among_marked c.args.keys.now c.loop-key.key-index n c.loop-key.marks _ refl (omega (arith, c.requires.to_marks c.loop-key.key-index below)) (c.loop-key.invariant n zeros))
 
 pub returns : goal.returns
 returns c =
-    let e : c.loop-i.i ≡ c.args.m = omega arith in
-    rw e at c.loop-i.invariant.2
+    let e : c.loop-key.key-index ≡ c.args.m = omega (arith, length-take c.args.m c.args.keys.now) in
+    rw e at c.loop-key.invariant
