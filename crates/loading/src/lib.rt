@@ -7,10 +7,10 @@ pub mod numbers;
 ghost use Rattle.loading.specs.HeldBlock.{Loads};
 
 use block::HeldBlock;
-use blockfile::read::{BlockRead, read_block};
+use blockfile::read::read_block;
 use model::Refusal;
 use model::limits::GATES_SQUARED;
-use network::{Network, judge_network};
+use network::judge_network;
 
 // The block of a file with an order of its gates along the wires, or the first refusal of 1 to 9.
 // What the arrays hold beyond the block's gates, steps and wires is free, but for the order, whose others are 0. For the calls above.
@@ -19,7 +19,7 @@ pub fn load(file: &[u8]) -> Result<HeldBlock, Refusal>
 {
     let mut block = HeldBlock::empty();
     let mut seen = [0u8; GATES_SQUARED];
-    let read = read_block(
+    let head = read_block(
         file,
         &mut block.delays,
         &mut block.activities,
@@ -30,35 +30,18 @@ pub fn load(file: &[u8]) -> Result<HeldBlock, Refusal>
         &mut block.targets,
         &mut block.wire_delays,
         &mut seen,
-    );
-    match read {
-        BlockRead::Refused(refusal) => Err(refusal),
-        BlockRead::Read {
-            gates,
-            wires,
-            arrival,
-            deadline,
-            activity,
-        } => {
-            let network = judge_network(
-                gates,
-                wires,
-                &block.sources,
-                &block.targets,
-                &mut block.order,
-            );
-            match network {
-                Network::Loop { gate } => Err(Refusal::Loop { gate }),
-                Network::Ends { gate } => Err(Refusal::Ends { gate }),
-                Network::Sound => {
-                    block.gates = gates;
-                    block.wires = wires;
-                    block.arrival = arrival;
-                    block.deadline = deadline;
-                    block.activity = activity;
-                    Ok(block)
-                }
-            }
-        }
-    }
+    )?;
+    judge_network(
+        head.gates,
+        head.wires,
+        &block.sources,
+        &block.targets,
+        &mut block.order,
+    )?;
+    block.gates = head.gates;
+    block.wires = head.wires;
+    block.arrival = head.arrival;
+    block.deadline = head.deadline;
+    block.activity = head.activity;
+    Ok(block)
 }
