@@ -6,7 +6,8 @@ ghost use Rattle.model.specs.Answer.{AnswersTicks, ticks_answer};
 ghost use Rattle.reaching.specs.CurveKnown.{CurveKnown};
 
 use model::{CurveAnswer, Refusal, TicksAnswer};
-use saving_curve::reach::{Reach, ticks_for};
+use saving_curve::position::Curve;
+use saving_curve::reach::ticks_for;
 
 // The answer of the fewest ticks by that of the curve, whose pairs stand in front of the two slices: a refusal is passed on.
 pub fn ticks_on_curve(found: CurveAnswer, widths: &[u32], gains: &[u64], wanted: u64) -> TicksAnswer
@@ -20,12 +21,16 @@ pub fn ticks_on_curve(found: CurveAnswer, widths: &[u32], gains: &[u64], wanted:
             at_start,
             pairs,
         } => {
-            let reach = ticks_for(widths, gains, pairs, at_start, wanted);
-            match reach {
-                Reach::Ticks(ticks) => TicksAnswer::Given {
+            let curve = Curve {
+                widths,
+                gains,
+                pairs,
+            };
+            match ticks_for(curve, at_start, wanted) {
+                Some(ticks) => TicksAnswer::Given {
                     ticks: ticks as u32,
                 },
-                Reach::Beyond => TicksAnswer::Refused(Refusal::Unreached),
+                None => TicksAnswer::Refused(Refusal::Unreached),
             }
         }
     }
