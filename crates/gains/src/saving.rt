@@ -51,9 +51,7 @@ pub fn list_saving(
     requires { Earnable n counts.now step_widths.now drops.now inputs.now increases.now }
     ensures { ListSaving n counts.now step_widths.now drops.now inputs.now increases.now result }
 {
-    let mut saving: u64 = 0;
-    for g in 0..n {
-        saving += gate_saving(g, increases[g], counts, step_widths, drops, inputs[g]);
-    }
-    saving
+    (0..n)
+        .map(|g| gate_saving(g, increases[g], counts, step_widths, drops, inputs[g]))
+        .sum()
 }
