@@ -3,20 +3,20 @@
 -- Assumes nothing.
 use mathlib.Core.Path.{◌≡◌, sym, ◌∙◌, ap}
 use mathlib.Core.Bool.{Bool, true, false, cond}
-use mathlib.Core.List.{List}
+use mathlib.Core.List.{List, ◌++◌}
 use Prim.Native.Nat.{ℕ, ◌+◌, ◌*◌, ◌<◌, ◌≤◌}
 use native.Mathlib.Numerals.{add-one}
 use native.Mathlib.Nat.{add-zero}
 use native.Mathlib.Decide.{ℕ_discrete}
 use native.Mathlib.Omega.{arith}
 use lib.Dec.{eqb}
-use lib.ListN.{length, get_or, set, length-set}
-use lib.Seq.{get_or-set_same, get_or-set_other}
+use lib.ListN.{length, get_or, set, take, drop, replicate, length-set, length-replicate, get_or-replicate}
+use lib.Seq.{get_or-set_same, get_or-set_other, length-take-le, ext_get_or}
 use borrow.Author.Tests.{eq-eqb, ne_eqb}
 use Rattle.lists.specs.Sum.{sum, total}
 use Rattle.lists.proofs.Sum.{sum_same}
 use Rattle.lists.specs.Over.{build, over}
-use Rattle.lists.proofs.Over.{get_or_build, over_more}
+use Rattle.lists.proofs.Over.{length_build, get_or_build}
 use Rattle.model.specs.Limits.{max_activity}
 use Rattle.model.specs.Block.{Gate, Block, gate, no_gate}
 use Rattle.model.specs.Gain.{brings, input_activity}
@@ -90,22 +90,21 @@ module _ (n i : ℕ) (sources targets activities out : List ℕ) (so_far : Broug
           rw (add-one i, get_or-set_other out target g (get_or out target 0 + get_or activities source 0) 0 u, ne_eqb (get_or targets i 0) g (λ (t : get_or targets i 0 ≡ g). u (sym t ∙ sym f)), so_far g h, add-zero)
 
 -- CLEARING
-pub cleared_more : (g : ℕ) (before out : List ℕ) → g < length before → out ≡ over (build g (λ (h : ℕ). 0)) before → set out g 0 ≡ over (build (g + 1) (λ (h : ℕ). 0)) before
-cleared_more g before out room e = rw e (over_more g (λ (h : ℕ). 0) before room)
+-- n zeros in front, and behind them what stood there before
+pub cleared : (n : ℕ) (before zeros : List ℕ) → n ≤ length before → zeros ≡ replicate (length (take n before)) 0 → zeros ++ drop n before ≡ over (build n (λ (g : ℕ). 0)) before
+unfolding over
+cleared n before zeros h e =
+    let long : length (take n before) ≡ n = length-take-le n before h in
+    let same : replicate n 0 ≡ build n (λ (g : ℕ). 0) =
+    ext_get_or 0 (replicate n 0) (build n (λ (g : ℕ). 0)) (length-replicate {A = ℕ} n 0 ∙ sym (length_build {A = ℕ} n (λ (g : ℕ). 0)))
+    (λ (g : ℕ) (l : g < length (replicate n 0)).
+    let below : g < n = omega (arith, length-replicate {A = ℕ} n 0) in
+    get_or-replicate n g 0 0 below ∙ sym (get_or_build n (λ (g : ℕ). 0) g 0 below)) in
+    rw (e, long, same, length_build {A = ℕ} n (λ (g : ℕ). 0))
 
 pub brought_none : (n : ℕ) (sources targets activities out : List ℕ) → ((g : ℕ) → g < n → get_or out g 0 ≡ 0) → Brought n 0 sources targets activities out
 unfolding sum
 brought_none n sources targets activities out zeros = zeros
-
--- what is asked does not depend on what stands in `out`
-pub still_summable : (n m : ℕ) (sources targets activities out cleared : List ℕ) → Summable n m sources targets activities out → length cleared ≡ length out → Summable n m sources targets activities cleared
-still_summable n m sources targets activities out cleared s e =
-    record {
-      lent = s.lent;
-      activities_long = s.activities_long;
-      activity_small = s.activity_small;
-      out_long = omega (arith, s.out_long);
-    }
 
 -- the first gate's is the input's own
 pub input_set : (n m : ℕ) (sources targets activities : List ℕ) (first input : ℕ) (before cleared out : List ℕ)

@@ -3,17 +3,21 @@
 -- Assumes nothing.
 use mathlib.Core.Path.{◌≡◌, refl, sym, ◌∙◌, ap}
 use mathlib.Core.Logic.{⊎_elim}
-use mathlib.Core.List.{List, [], ◌∷◌}
-use Prim.Native.Nat.{ℕ, ◌+◌, ◌*◌, ◌-◌, ◌<◌, ◌≤◌, min}
+use mathlib.Core.List.{List, [], ◌∷◌, Memᴰ}
+use Prim.Native.Nat.{ℕ, zero, suc, ◌+◌, ◌*◌, ◌-◌, ◌<◌, ◌≤◌, min}
 use native.Mathlib.Numerals.{add-one}
 use native.Mathlib.Nat.{zero-mul, mul-zero, zero-add, add-zero, mul-le-mul, min-eq_left, min-eq_right, min-le_right}
 use native.Mathlib.Omega.{arith}
 use lib.ListN.{length, get_or, take, drop}
-use lib.Seq.{drop-cons, drop-length, get_or-take}
+use lib.Seq.{drop-cons, drop-length, get_or-take, ext_get_or}
+use Rattle.std.specs.List.{sum_by, range_with_len}
+use Rattle.std.proofs.lemmas.List.FromFn.{length-range_with_len, get_or-range_with_len}
+use Rattle.std.proofs.lemmas.List.Sums.{sum_by_push}
 use borrow.Author.Tests.{lt-ltb, le-ltb}
 use Rattle.lists.specs.Sum.{sum}
 use Rattle.lists.proofs.Sum.{sum_same}
-use Rattle.lists.proofs.Over.{length_build, get_or_build}
+use Rattle.lists.specs.Over.{build}
+use Rattle.lists.proofs.Over.{length_build, get_or_build, mem_build}
 use Rattle.lists.proofs.Compare.{le_or_lt}
 use Rattle.model.specs.Limits.{max_steps, max_width, max_drop}
 use Rattle.model.specs.Block.{Step, Block}
@@ -23,7 +27,7 @@ use Rattle.model.proofs.Limited.{BlockLimits}
 use Rattle.gains.specs.Steps.{steps_in, StepsLent, Held}
 use Rattle.gains.specs.Activities.{max_input}
 use Rattle.gains.specs.Savings.{earned, most_of_step, most_of_gate, Earnable, ListSaving}
-use Rattle.gains.proofs.Sums.{sum_more, sum_constant, sum_stretches}
+use Rattle.gains.proofs.Sums.{sum_bounded, sum_constant, sum_stretches}
 use Rattle.gains.proofs.Held.{held_count, held_steps, held_lent}
 use Rattle.gains.proofs.Sources.{input_most}
 
@@ -124,13 +128,47 @@ abbrev pub earned_in : ℕ → List ℕ → List ℕ → List ℕ → List ℕ �
 earned_in n counts step_widths drops inputs increases =
     sum n (λ (g : ℕ). earned (steps_in counts step_widths drops g) (get_or inputs g 0) (get_or increases g 0))
 
+-- a range of numbers is summed over its places
+built_sum : (n : ℕ) (f : ℕ → ℕ) → sum_by f (build n (λ (i : ℕ). i)) ≡ sum n f
+unfolding sum build
+built_sum zero f = refl
+built_sum (suc n) f = sum_by_push f (build n (λ (i : ℕ). i)) n ∙ ap (λ (s : ℕ). s + f n) (built_sum n f)
+
+range_sum : (n : ℕ) (f : ℕ → ℕ) → sum_by f (range_with_len 0 n) ≡ sum n f
+range_sum n f = ap (sum_by f) (ext_get_or 0 (range_with_len 0 n) (build n (λ (i : ℕ). i)) (length-range_with_len 0 n ∙ sym (length_build {A = ℕ} n (λ (i : ℕ). i))) each) ∙ built_sum n f
+  where
+    each : (i : ℕ) → i < length (range_with_len 0 n) → get_or (range_with_len 0 n) i 0 ≡ get_or (build n (λ (i : ℕ). i)) i 0
+    each i h =
+        let below : i < n = omega (arith, length-range_with_len 0 n) in
+        get_or-range_with_len 0 n i 0 below ∙ zero-add i ∙ sym (get_or_build {A = ℕ} n (λ (i : ℕ). i) i 0 below)
+
+-- steps that are as small as a step can be earn no more than each of them at the most
+steps_most : (ss : List Step) (activity k : ℕ) → ((s : Step) → Memᴰ s ss → (s.width ≤ max_width) × (s.drop ≤ max_drop)) → activity ≤ max_input → earned ss activity k ≤ length ss * most_of_step
+steps_most [] activity k small a = omega (arith, earned_none activity k)
+steps_most (s ∷ ss) activity k small a =
+    let here = small s (Memᴰ.head refl) in
+    let first = step_small (min k s.width) s.drop activity (omega (arith, min-le_right k s.width)) here.1 a in
+    let rest = steps_most ss activity (k - min k s.width) (λ (t : Step) (m : Memᴰ t ss). small t (Memᴰ.tail m)) a in
+    omega (arith, earned_step s ss activity k)
+
+-- so does a gate
+pub gate_most : (counts step_widths drops : List ℕ) (g activity k : ℕ) → StepsLent counts step_widths drops g → activity ≤ max_input → earned (steps_in counts step_widths drops g) activity k ≤ most_of_gate
+gate_most counts step_widths drops g activity k lent a =
+    let each : (s : Step) → Memᴰ s (steps_in counts step_widths drops g) → (s.width ≤ max_width) × (s.drop ≤ max_drop) =
+    λ (s : Step) (m : Memᴰ s (steps_in counts step_widths drops g)).
+    let r = mem_build (get_or counts g 0) (step_at step_widths drops g) m in
+    rw r.2 (lent.widths_lent.width_small r.0 r.1, lent.drop_small r.0 r.1) in
+    omega (arith, steps_most (steps_in counts step_widths drops g) activity k each a, length_build (get_or counts g 0) (step_at step_widths drops g), lent.widths_lent.few)
+
 module _ (n : ℕ) (counts step_widths drops inputs increases : List ℕ) where
-  pub earned_more : (g saved r : ℕ)
-      → saved ≡ earned_in g counts step_widths drops inputs increases
-      → r ≡ earned (steps_in counts step_widths drops g) (get_or inputs g 0) (get_or increases g 0)
-      → saved + r ≡ earned_in (g + 1) counts step_widths drops inputs increases
-  earned_more g saved r e f =
-      omega (arith, sum_more g (λ (h : ℕ). earned (steps_in counts step_widths drops h) (get_or inputs h 0) (get_or increases h 0)))
+  -- what each gate's increase earns, summed over the gates in a range
+  pub range_earned : sum_by (λ (g : ℕ). earned (steps_in counts step_widths drops g) (get_or inputs g 0) (get_or increases g 0)) (range_with_len 0 n) ≡ earned_in n counts step_widths drops inputs increases
+  range_earned = range_sum n (λ (g : ℕ). earned (steps_in counts step_widths drops g) (get_or inputs g 0) (get_or increases g 0))
+
+  pub earned_most : Earnable n counts step_widths drops inputs increases → earned_in n counts step_widths drops inputs increases ≤ n * most_of_gate
+  earned_most able =
+      sum_bounded n (λ (g : ℕ). earned (steps_in counts step_widths drops g) (get_or inputs g 0) (get_or increases g 0)) most_of_gate
+      (λ (g : ℕ) (h : g < n). gate_most counts step_widths drops g (get_or inputs g 0) (get_or increases g 0) (able.steps g h) (able.input_small g h))
 
   -- any list that has these increases in front saves what the gates earn
   saving_is : (B : Block) (x : List ℕ)
@@ -147,11 +185,10 @@ module _ (n : ℕ) (counts step_widths drops inputs increases : List ℕ) where
       ∙ ap (λ (k : ℕ). sum k (gain B g)) (sym (same g h)))
       ∙ ap (λ (k : ℕ). sum k (λ (g : ℕ). sum (get_or x g 0) (gain B g))) (sym (held_count B n counts step_widths drops held))
 
-  pub list_saving : (r : ℕ) → r ≡ earned_in n counts step_widths drops inputs increases → r ≤ n * most_of_gate
-      → ListSaving n counts step_widths drops inputs increases r
-  list_saving r e small =
+  pub list_saving : (r : ℕ) → r ≡ earned_in n counts step_widths drops inputs increases → Earnable n counts step_widths drops inputs increases → ListSaving n counts step_widths drops inputs increases r
+  list_saving r e able =
       record {
-        small = small;
+        small = rw e (earned_most able);
         of_front = λ B held inputs_are. e ∙ saving_is B (take n increases) held inputs_are (λ (g : ℕ) (h : g < n). get_or-take n increases g 0 h);
         of_all = λ B held inputs_are. e ∙ saving_is B increases held inputs_are (λ (g : ℕ) (h : g < n). refl);
       }

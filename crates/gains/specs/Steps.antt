@@ -1,5 +1,5 @@
 -- The steps of gates as the code holds them, and what is asked of the arrays.
-use Rattle.std.specs.Prelude.{◌≡◌, List, ℕ, ◌≤◌, ◌<◌, length, get_or}
+use Rattle.std.specs.Prelude.{◌≡◌, Option, Some, None, List, ℕ, ◌≤◌, ◌<◌, length, get_or}
 use Rattle.lists.specs.Sum.{sum}
 use Rattle.lists.specs.Over.{build}
 use Rattle.lists.specs.Search.{Lowest}
@@ -36,9 +36,7 @@ pub record Held (B : Block) (n : ℕ) (counts step_widths drops : List ℕ) : Ty
   pub activities : List ℕ
   pub gates : B.gates ≡ gates_in n delays activities counts step_widths drops
 
--- r is the lowest of n gates whose increase exceeds its widths, or n where there is none.
-pub record LowestExceeding (B : Block) (x : List ℕ) (n r : ℕ) : Type 0 where
-  pub within : r ≤ n
-  pub lowest : r < n → Lowest (Exceeds B x) r
-  pub none : r ≡ n → (g : ℕ) → ¬ (Exceeds B x g)
-  pub only : (g : ℕ) → Lowest (Exceeds B x) g → r ≡ g
+-- the lowest of n gates whose increase exceeds its widths, and the only one that is the lowest; where there is none, no gate's increase does
+abbrev pub LowestExceeding : Block → List ℕ → ℕ → Option ℕ → Type 0
+LowestExceeding B x n (Some r) = (r < n) × Lowest (Exceeds B x) r × ((g : ℕ) → Lowest (Exceeds B x) g → g ≡ r)
+LowestExceeding B x n None = (g : ℕ) → ¬ (Exceeds B x g)

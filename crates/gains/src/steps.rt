@@ -6,7 +6,6 @@ ghost use Rattle.model.specs.Arrays.{step_place};
 ghost use Rattle.gains.specs.Steps.{widths_in, WidthsLent, Held, LowestExceeding};
 
 use model::limits::MAX_STEPS;
-use ordering::marking::at;
 
 // The place of step j of gate g.
 pub(crate) fn place_of(g: usize, j: usize) -> usize
@@ -21,27 +20,20 @@ fn widths_of(g: usize, counts: &[u32], step_widths: &[u32]) -> u32
     requires { WidthsLent counts.now step_widths.now g }
     ensures { result ≡ widths_in counts.now step_widths.now g }
 {
-    let count = at(counts, g);
-    let mut sum: u32 = 0;
-    let mut j: usize = 0;
-    while j < count {
-        sum += step_widths[place_of(g, j)];
-        j += 1;
-    }
-    sum
+    let first = place_of(g, 0);
+    let end = first + counts[g] as usize;
+    step_widths[first..end].iter().sum()
 }
 
-// The lowest of n gates whose increase exceeds its widths, or n where there is none.
-pub fn lowest_exceeding(n: usize, counts: &[u32], step_widths: &[u32], increases: &[u32]) -> usize
+// The lowest of n gates whose increase exceeds its widths, if there is one.
+pub fn lowest_exceeding(
+    n: usize,
+    counts: &[u32],
+    step_widths: &[u32],
+    increases: &[u32],
+) -> Option<usize>
     requires { ((g : ℕ) → g < n → WidthsLent counts.now step_widths.now g) × (n ≤ length increases.now) }
     ensures { (B : Block) (drops : List ℕ) → Held B n counts.now step_widths.now drops → LowestExceeding B (take n increases.now) n result × LowestExceeding B increases.now n result }
 {
-    let mut g: usize = 0;
-    while g < n {
-        if widths_of(g, counts, step_widths) < increases[g] {
-            return g;
-        }
-        g += 1;
-    }
-    g
+    (0..n).find(|&g| widths_of(g, counts, step_widths) < increases[g])
 }

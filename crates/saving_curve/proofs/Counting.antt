@@ -12,9 +12,10 @@ use lib.Seq.{drop-cons}
 use Rattle.lists.proofs.Over.{length_build}
 use Rattle.model.specs.Curve.{Pair, count_off}
 use Rattle.model.proofs.Curve.{count_off_none, count_off_within, count_off_beyond}
+use Rattle.saving_curve.specs.declared.position.Curve.{Curve}
 use Rattle.saving_curve.specs.declared.position.Position.{Position}
 use Rattle.saving_curve.specs.declared.position.Taken.{Taken}
-use Rattle.saving_curve.specs.Position.{pair_at, pairs_in, no_pair, here, left_at, at_front, taken_at}
+use Rattle.saving_curve.specs.Position.{pair_at, pairs_of, no_pair, here, left_at, at_front, taken_at}
 use Rattle.saving_curve.proofs.Taking.{Taking, past, within, beyond, is_taking, no_more, fewer}
 
 -- the pairs without the first u ticks of the first
@@ -81,17 +82,17 @@ counting_ends ps k next left earned c d = omega (arith, c.all, none d)
     none (inl e) = rw e (count_off_none (ahead ps next))
     none (inr h) = rw (ahead_past ps next h)
 
--- One turn of the loop, on a curve that two slices hold: t is what is taken of the pair at `next`.
-module _ (n : ℕ) (ws gs : List ℕ) (k : ℕ) (next : Position) (left earned : ℕ) (t : Taken) (e : t ≡ taken_at (pairs_in n ws gs) next left) where
+-- One turn of the loop, on a curve in two slices: t is what is taken of the pair at `next`.
+module _ (curve : Curve) (k earned : ℕ) (next : Position) {left : ℕ} {t : Taken} (e : t ≡ taken_at (pairs_of curve) next left) where
   pub turn_takes : t.ticks ≤ left
-  turn_takes = no_more (is_taking {ps = pairs_in n ws gs} {p = next} e)
+  turn_takes = no_more (is_taking {ps = pairs_of curve} {p = next} e)
 
-  pub turn_shortens : 0 < left → next.pair < n → left - t.ticks + (n - t.next.pair) < left + (n - next.pair)
-  turn_shortens l h = rw (length_build n (pair_at ws gs)) at (fewer (is_taking {ps = pairs_in n ws gs} {p = next} e) l (rw length_build h))
+  pub turn_shortens : 0 < left → next.pair < curve.pairs → left - t.ticks + (curve.pairs - t.next.pair) < left + (curve.pairs - next.pair)
+  turn_shortens l h = rw (length_build curve.pairs (pair_at curve.widths.now curve.gains.now)) at (fewer (is_taking {ps = pairs_of curve} {p = next} e) l (rw length_build h))
 
   -- what it earns is a part of all
-  pub turn_fits : Counted (pairs_in n ws gs) k next left earned → count_off (pairs_in n ws gs) k < 2 ^ 64 → earned + t.ticks * t.gain < 2 ^ 64
-  turn_fits c f = omega (arith, c.all, taking_counts (is_taking {ps = pairs_in n ws gs} {p = next} e))
+  pub turn_fits : Counted (pairs_of curve) k next left earned → count_off (pairs_of curve) k < 2 ^ 64 → earned + t.ticks * t.gain < 2 ^ 64
+  turn_fits c f = omega (arith, c.all, taking_counts (is_taking {ps = pairs_of curve} {p = next} e))
 
-  pub turn_counts : Counted (pairs_in n ws gs) k next left earned → Counted (pairs_in n ws gs) k t.next (left - t.ticks) (earned + t.ticks * t.gain)
-  turn_counts c = record { all = omega (arith, c.all, taking_counts (is_taking {ps = pairs_in n ws gs} {p = next} e)) }
+  pub turn_counts : Counted (pairs_of curve) k next left earned → Counted (pairs_of curve) k t.next (left - t.ticks) (earned + t.ticks * t.gain)
+  turn_counts c = record { all = omega (arith, c.all, taking_counts (is_taking {ps = pairs_of curve} {p = next} e)) }

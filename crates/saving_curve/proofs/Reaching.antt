@@ -4,8 +4,8 @@
 use mathlib.Core.Path.{◌≡◌, ◌∙◌}
 use mathlib.Core.Logic.{⊎_elim}
 use mathlib.Core.List.{List}
-use Prim.Native.Nat.{ℕ, zero, suc, ◌+◌, ◌*◌, ◌-◌, ◌/◌, ◌^◌, ◌≤◌, ◌<◌}
-use native.Mathlib.Nat.{mul-le-mul_right, add-mul, div-add-mod', mod-lt, zero-mul, zero-add, mul-zero}
+use Prim.Native.Nat.{ℕ, zero, suc, ◌+◌, ◌*◌, ◌-◌, ◌^◌, ◌≤◌, ◌<◌}
+use native.Mathlib.Nat.{add-mul, zero-mul, zero-add, mul-zero}
 use native.Mathlib.Omega.{arith}
 use lib.ListN.{length}
 use Rattle.lists.specs.Search.{Lowest}
@@ -13,26 +13,16 @@ use Rattle.lists.proofs.Compare.{le_or_lt}
 use Rattle.lists.proofs.Over.{length_build}
 use Rattle.model.specs.Curve.{Pair, all_ticks, count_off}
 use Rattle.model.proofs.Curve.{count_off_none, count_off_grows, count_off_whole}
+use Rattle.saving_curve.specs.declared.position.Curve.{Curve}
 use Rattle.saving_curve.specs.declared.position.Position.{Position}
 use Rattle.saving_curve.specs.declared.position.Taken.{Taken}
-use Rattle.saving_curve.specs.Position.{pairs_in, here, left_at, at_front, taken_at}
+use Rattle.saving_curve.specs.Position.{pairs_of, here, left_at, at_front, taken_at}
 use Rattle.saving_curve.proofs.Taking.{rest_of_pair, taken_beyond}
 use Rattle.saving_curve.proofs.Counting.{ahead, without_none, ahead_past, within_here, beyond_here}
 
 -- the greatest 32-bit number
 abbrev pub greatest : ℕ
 greatest = 4294967295
-
--- the fewest ticks of one gain that earn what is needed
-pub fewest_of : (gain need : ℕ) → 1 ≤ gain → 1 ≤ need → Lowest (λ (k : ℕ). need ≤ k * gain) ((need - 1) / gain + 1)
-fewest_of gain need g n =
-    let parts = div-add-mod' (need - 1) gain in
-    let rest = mod-lt (need - 1) {m = gain} g in
-    let more = add-mul ((need - 1) / gain) 1 gain in
-    record {
-      holds = omega arith;
-      none_below = λ k l h. let most : k * gain ≤ (need - 1) / gain * gain = mul-le-mul_right gain (omega arith) in omega arith;
-    }
 
 -- `need` is still needed after `ticks` ticks, which have come to the position `next`: with k ticks more, the saving at start, what the ticks earn and the need come to the wanted saving and what the k ticks earn from the position on.
 pub record Reaching (ps : List Pair) (at_start wanted : ℕ) (next : Position) (ticks need : ℕ) : Type 0 where
@@ -103,22 +93,19 @@ module _ {ps : List Pair} {at_start wanted : ℕ} {next : Position} {ticks need 
             none_below = λ j l h. omega (arith, none_fewer j l);
           }
 
--- One turn of the loop, on a curve that two slices hold: t is all that is left of the pair at `next`.
-module _ (n : ℕ) (ws gs : List ℕ) (at_start wanted : ℕ) (next : Position) (ticks need : ℕ) (r : Reaching (pairs_in n ws gs) at_start wanted next ticks need) (ahead_of_end : next.pair < n)
-    (t : Taken) (taken : t ≡ taken_at (pairs_in n ws gs) next (left_at (pairs_in n ws gs) next + 1)) where
-  inside : next.pair < length (pairs_in n ws gs)
+-- One turn of the loop, on a curve in two slices: t is all that is left of the pair at `next`.
+module _ (curve : Curve) {at_start wanted : ℕ} {next : Position} {ticks need : ℕ} (r : Reaching (pairs_of curve) at_start wanted next ticks need) (ahead_of_end : next.pair < curve.pairs)
+    {t : Taken} (taken : t ≡ taken_at (pairs_of curve) next (left_at (pairs_of curve) next + 1)) where
+  inside : next.pair < length (pairs_of curve)
   inside = rw length_build ahead_of_end
 
-  is_rest : t ≡ rest_of_pair (pairs_in n ws gs) next
-  is_rest = taken ∙ taken_beyond (pairs_in n ws gs) next (left_at (pairs_in n ws gs) next + 1) inside (omega arith)
+  is_rest : t ≡ rest_of_pair (pairs_of curve) next
+  is_rest = taken ∙ taken_beyond (pairs_of curve) next (left_at (pairs_of curve) next + 1) inside (omega arith)
 
-  pub turn_shortens : n - t.next.pair < n - next.pair
-  turn_shortens = rw is_rest (omega arith)
-
-  pub turn_fits : count_off (pairs_in n ws gs) (all_ticks (pairs_in n ws gs)) < 2 ^ 64 → t.ticks * t.gain < 2 ^ 64
+  pub turn_fits : count_off (pairs_of curve) (all_ticks (pairs_of curve)) < 2 ^ 64 → t.ticks * t.gain < 2 ^ 64
   turn_fits fits = rw is_rest (omega (arith, part_of_all r inside))
 
-  pub turn_passes : t.ticks ≤ greatest → t.ticks * t.gain < need → Reaching (pairs_in n ws gs) at_start wanted t.next (ticks + t.ticks) (need - t.ticks * t.gain)
+  pub turn_passes : t.ticks ≤ greatest → t.ticks * t.gain < need → Reaching (pairs_of curve) at_start wanted (record { pair = next.pair + 1; used = 0 }) (ticks + t.ticks) (need - t.ticks * t.gain)
   turn_passes small less = rw is_rest (passes_on r inside (rw is_rest at small) (rw is_rest at less))
 
   module _ (enough : need ≤ t.ticks * t.gain) where
@@ -131,7 +118,7 @@ module _ (n : ℕ) (ws gs : List ℕ) (at_start wanted : ℕ) (next : Position) 
         go (suc i) l = omega arith
 
     module _ {k : ℕ} (fewest : Lowest (λ (j : ℕ). need ≤ j * t.gain) k) where
-      pub turn_reaches : Lowest (λ (j : ℕ). wanted ≤ at_start + count_off (pairs_in n ws gs) j) (ticks + k)
+      pub turn_reaches : Lowest (λ (j : ℕ). wanted ≤ at_start + count_off (pairs_of curve) j) (ticks + k)
       turn_reaches = reaches_here r inside (rw is_rest at enough) (rw is_rest at fewest)
 
       pub turn_few : k ≤ t.ticks

@@ -2,6 +2,7 @@
 use Rattle.std.specs.Prelude.{cond, List, ℕ, ◌+◌, ◌-◌, min, leb, ltb, length, get_or}
 use Rattle.lists.specs.Over.{build}
 use Rattle.model.specs.Curve.{Pair}
+use Rattle.saving_curve.specs.declared.position.Curve.{Curve}
 use Rattle.saving_curve.specs.declared.position.Position.{Position}
 use Rattle.saving_curve.specs.declared.position.Taken.{Taken}
 
@@ -12,6 +13,10 @@ pair_at widths gains i = record { width = get_or widths i 0; gain = get_or gains
 -- the first n pairs
 abbrev pub pairs_in : ℕ → List ℕ → List ℕ → List Pair
 pairs_in n widths gains = build n (pair_at widths gains)
+
+-- the pairs of a curve
+abbrev pub pairs_of : Curve → List Pair
+pairs_of c = pairs_in c.pairs c.widths.now c.gains.now
 
 -- the front of a curve: its first pair, no tick of it used
 abbrev pub at_front : Position

@@ -2,6 +2,5 @@
 #![tactic(auto)]
 
 pub mod count;
-mod number;
 pub mod position;
 pub mod reach;

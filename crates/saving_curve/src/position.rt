@@ -1,8 +1,14 @@
 // A position on a curve, by value: each taking of ticks hands back the next position, the ticks taken and the gain of each.
-ghost use Rattle.std.specs.Prelude.{◌≡◌, ◌+◌};
-ghost use Rattle.saving_curve.specs.Position.{pairs_in, at_front, left_at, taken_at};
+ghost use Rattle.std.specs.Prelude.{◌≡◌, ◌+◌, ◌*◌, ◌^◌, ◌<◌};
+ghost use Rattle.saving_curve.specs.Position.{pairs_of, at_front, left_at, taken_at};
 
-use crate::number::{element, left_of, smaller, wide_element};
+// A curve of so many pairs in front of two slices; what stands past a slice's end counts as 0.
+#[derive(Clone, Copy)]
+pub struct Curve<'a> {
+    pub widths: &'a [u32],
+    pub gains: &'a [u64],
+    pub pairs: usize,
+}
 
 // A place on a curve: a pair, and how many of its ticks are used.
 #[derive(Clone, Copy)]
@@ -19,6 +25,16 @@ pub struct Taken {
     pub gain: u64,
 }
 
+impl Taken {
+    // What the ticks taken earn, where it fits 64 bits.
+    pub fn earned(self) -> u64
+        requires { self.ticks * self.gain < 2 ^ 64 }
+        ensures { result ≡ self.ticks * self.gain }
+    {
+        u64::from(self.ticks) * self.gain
+    }
+}
+
 impl Position {
     // The front of a curve.
     pub fn front() -> Self
@@ -28,12 +44,35 @@ impl Position {
     }
 
     // At most `ticks` ticks of the pair that the position stands in; none past the end.
-    pub fn take(self, widths: &[u32], gains: &[u64], pairs: usize, ticks: u32) -> Taken
-        ensures { result ≡ taken_at (pairs_in pairs widths.now gains.now) self ticks }
+    pub fn take(self, curve: Curve, ticks: u32) -> Taken
+        ensures { result ≡ taken_at (pairs_of curve.entry) self ticks }
+    {
+        let rest = self.rest(curve);
+        let taken = ticks.min(rest.ticks);
+        if self.pair < curve.pairs && ticks <= rest.ticks {
+            Taken {
+                next: Position {
+                    pair: self.pair,
+                    used: self.used + ticks,
+                },
+                ticks: taken,
+                gain: rest.gain,
+            }
+        } else {
+            Taken {
+                ticks: taken,
+                ..rest
+            }
+        }
+    }
+
+    // All that is left of the pair that the position stands in, and on to the next pair: what one tick more than is left takes. None past the end.
+    pub fn rest(self, curve: Curve) -> Taken
+        ensures taken { result ≡ taken_at (pairs_of curve.entry) self (left_at (pairs_of curve.entry) self + 1) }
+        ensures used_fits { self.used + result.ticks < 2 ^ 32 }
     {
         let pair = self.pair;
-        let used = self.used;
-        if pairs <= pair {
+        if curve.pairs <= pair {
             return Taken {
                 next: self,
                 ticks: 0,
@@ -41,50 +80,15 @@ impl Position {
             };
         }
         let next = pair + 1;
-        let left = left_of(element(widths, pair), used);
-        let taken = smaller(ticks, left);
-        let gain = wide_element(gains, pair);
-        if ticks <= left {
-            return Taken {
-                next: Position {
-                    pair,
-                    used: used + ticks,
-                },
-                ticks: taken,
-                gain,
-            };
-        }
+        let width = curve.widths.get(pair).copied().unwrap_or(0);
+        let gain = curve.gains.get(pair).copied().unwrap_or(0);
         Taken {
             next: Position {
                 pair: next,
                 used: 0,
             },
-            ticks: taken,
+            ticks: width.saturating_sub(self.used),
             gain,
-        }
-    }
-
-    // All that is left of the pair that the position stands in, and on to the next pair: what one tick more than is left takes. None past the end.
-    pub fn rest(self, widths: &[u32], gains: &[u64], pairs: usize) -> Taken
-        ensures { result ≡ taken_at (pairs_in pairs widths.now gains.now) self (left_at (pairs_in pairs widths.now gains.now) self + 1) }
-    {
-        let pair = self.pair;
-        let used = self.used;
-        if pair >= pairs {
-            return Taken {
-                next: self,
-                ticks: 0,
-                gain: 0,
-            };
-        }
-        let left = left_of(element(widths, pair), used);
-        Taken {
-            next: Position {
-                pair: pair + 1,
-                used: 0,
-            },
-            ticks: left,
-            gain: wide_element(gains, pair),
         }
     }
 }

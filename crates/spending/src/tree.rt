@@ -15,6 +15,7 @@ use ordering::marking::at;
 use planting::MAX_NODES;
 use planting::tree_words::TreeWords;
 use saving_curve::count::count_off;
+use saving_curve::position::Curve;
 use sizing::curve::spend_ticks;
 use sizing::start::start;
 
@@ -146,5 +147,10 @@ pub fn tree_increases(
         &mut pair_widths,
         &mut pair_gains,
     );
-    found.saving + count_off(&pair_widths, &pair_gains, found.pairs, ticks)
+    let curve = Curve {
+        widths: &pair_widths,
+        gains: &pair_gains,
+        pairs: found.pairs,
+    };
+    found.saving + count_off(curve, ticks)
 }

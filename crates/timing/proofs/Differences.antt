@@ -4,7 +4,7 @@ use mathlib.Core.Path.{◌≡◌, ◌∙◌}
 use mathlib.Core.Logic.{◌⊎◌, inl, inr}
 use Prim.Native.Nat.{ℕ, ◌≤◌, ◌<◌}
 use native.Mathlib.Omega.{arith}
-use lib.IntN.{ℤ, pos, ◌-ℤ◌}
+use lib.IntN.{pos, ◌-ℤ◌}
 use mir.Syntax.{w32}
 use mir.Val.{SFits, to_z, of_z}
 use mir.ValLaws.{to_z_pos, to_z-of_z}
@@ -24,7 +24,3 @@ module _ (a b : ℕ) (ha : a < 2147483648) (hb : b < 2147483648) where
 
   pub difference_read : to_z w32 (of_z w32 (to_z w32 a -ℤ to_z w32 b)) ≡ pos a -ℤ pos b
   difference_read = to_z-of_z w32 (to_z w32 a -ℤ to_z w32 b) difference_fits ∙ rw (to_z_pos w32 a ha, to_z_pos w32 b hb)
-
-  -- what is read back of the difference once it is stored
-  pub difference_stored : (r : ℤ) → r ≡ pos a -ℤ pos b → to_z w32 (of_z w32 r) ≡ pos a -ℤ pos b
-  difference_stored r e = rw e (to_z-of_z w32 (pos a -ℤ pos b) fits)

@@ -1,13 +1,10 @@
 -- An order the other way round is an order of the network with its wires turned round.
 -- Assumes nothing.
 use mathlib.Core.Path.{◌≡◌, refl, ◌∙◌, ap}
-use mathlib.Core.Logic.{⊎_elim}
 use mathlib.Core.List.{List, [], ◌∷◌, ◌++◌}
-use Prim.Native.Nat.{ℕ, zero, suc, ◌+◌, ◌-◌, ◌<◌}
-use native.Mathlib.Nat.{eq-or-lt_of_le, le_of_suc-le-suc}
+use Prim.Native.Nat.{ℕ, zero, suc, ◌-◌, ◌<◌}
 use native.Mathlib.Omega.{arith}
-use lib.ListN.{length, get_or, set}
-use lib.Seq.{get_or-set_same, get_or-set_other}
+use lib.ListN.{get_or}
 use Rattle.lists.specs.Over.{build}
 use Rattle.model.specs.Block.{Wire}
 use Rattle.model.specs.Arrays.{wire_at, wires_in}
@@ -15,21 +12,6 @@ use Rattle.model.proofs.Turned.{turned, turn}
 use Rattle.ordering.specs.Wires.{Lent, Wired}
 use Rattle.ordering.specs.Order.{Order}
 use Rattle.timing.specs.Slacks.{Reversed}
-
--- one element more is turned
-pub reversed_more : (n k : ℕ) (order back : List ℕ) → k < n → k < length back
-    → ((j : ℕ) → j < k → get_or back j 0 ≡ get_or order (n - suc j) 0)
-    → (j : ℕ)
-    → j < k + 1
-    → get_or (set back k (get_or order (n - 1 - k) 0)) j 0 ≡ get_or order (n - suc j) 0
-reversed_more n k order back h l before j m =
-    let above : j < suc k = omega arith in
-    ⊎_elim
-    (λ (e : j ≡ k).
-    let same : n - 1 - k ≡ n - suc j = omega arith in
-    rw (e, get_or-set_same back k (get_or order (n - 1 - k) 0) 0 l) (ap (λ (x : ℕ). get_or order x 0) (same ∙ ap (λ (x : ℕ). n - suc x) e)))
-    (λ (b : j < k). get_or-set_other back k j (get_or order (n - 1 - k) 0) 0 (λ (q : j ≡ k). omega arith) ∙ before j b)
-    (eq-or-lt_of_le (le_of_suc-le-suc above))
 
 pub order_reversed : (n m : ℕ) (sources targets order back : List ℕ) → Reversed n order back → Order (Wired m sources targets) n order → Lent n m sources targets → Order (Wired m targets sources) n back
 order_reversed n m sources targets order back reversed ordered lent =

@@ -22,6 +22,7 @@ module _ (sources targets delays times : List ℕ) (base g m : ℕ) where
     pub left : ℕ
     pub left_in : left ≤ m
     pub next_is : next ≡ last_before targets left g
+    pub next_in : next ≤ m
     pub together : max latest (first_wires next) ≡ first_wires m
     pub at_least : base ≤ latest
 
@@ -32,6 +33,7 @@ module _ (sources targets delays times : List ℕ) (base g m : ℕ) where
         left = m;
         left_in = le_refl m;
         next_is = is;
+        next_in = omega (arith, last_at_most targets m g);
         together =
             let all : first_wires m ≡ first_wires next = rw is (over_last sources targets delays (λ (a : ℕ). get_or times a 0) base g m) in
             omega (arith, latest_base (wires_in m sources targets delays) (λ (a : ℕ). get_or times a 0) base g);
@@ -64,6 +66,7 @@ module _ (sources targets delays times : List ℕ) (base g m : ℕ) where
         left = i;
         left_in = omega (arith, at.0);
         next_is = is;
+        next_in = omega (arith, at.0, last_at_most targets i g);
         together = omega (arith, w.together);
         at_least = omega (arith, w.at_least);
       }

@@ -4,8 +4,6 @@ ghost use Rattle.model.specs.Slack.{latest_in};
 ghost use Rattle.model.specs.Arrays.{wires_in};
 ghost use Rattle.timing.specs.Times.{time_bound, Walkable, Ready, LatestTimes};
 
-use crate::number::{index, larger};
-
 // The latest time at which a wire has brought its signal to gate g; `base` where no wire leads there.
 // Each wire into the gate is looked at once. (`targets` is there for the promise.)
 fn latest_into(
@@ -24,12 +22,13 @@ fn latest_into(
     ensures { result ≡ latest_in (wires_in m sources.now targets.now wire_delays.now) (λ (a : ℕ). get_or times.now a 0) base g }
 {
     let mut latest = base;
-    let mut next = index(heads[g]);
+    let mut next = heads[g] as usize;
+    // A `while`: each wire's link names the next wire of the chain, so no range or slice has them in this order.
     while 0 < next {
         let i = next - 1;
-        let a = index(sources[i]);
-        latest = larger(latest, times[a] + wire_delays[i]);
-        next = index(links[i]);
+        let a = sources[i] as usize;
+        latest = latest.max(times[a] + wire_delays[i]);
+        next = links[i] as usize;
     }
     latest
 }
@@ -51,9 +50,8 @@ pub fn latest_times(
     requires { Ready n m order.now sources.now targets.now wire_delays.now gate_delays.now heads.now links.now base times.old }
     ensures { LatestTimes n m sources.now targets.now wire_delays.now gate_delays.now base times.old times.new }
 {
-    let mut k: usize = 0;
-    while k < n {
-        let g = index(order[k]);
+    for &gate in &order[..n] {
+        let g = gate as usize;
         let latest = latest_into(
             g,
             n,
@@ -67,6 +65,5 @@ pub fn latest_times(
             base,
         );
         times[g] = latest + gate_delays[g];
-        k += 1;
     }
 }

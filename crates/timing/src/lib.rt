@@ -2,7 +2,6 @@
 #![tactic(auto)]
 
 mod latest;
-mod number;
 pub mod slack;
 pub mod start;
 pub mod times;

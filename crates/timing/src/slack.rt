@@ -4,7 +4,6 @@ ghost use Rattle.lists.specs.Over.{build, over};
 ghost use Rattle.model.specs.Limits.{max_gates};
 ghost use Rattle.timing.specs.Slacks.{Reversed, Subtractable, Slackable, left_at, slack_in};
 
-use crate::number::left_of;
 use crate::times::times_from;
 use model::limits::MAX_GATES;
 
@@ -13,11 +12,8 @@ fn reverse_order(n: usize, order: &[u32], back: &mut [u32])
     requires { (n ≤ max_gates) × (n ≤ length order.now) × (n ≤ length back.old) }
     ensures { Reversed n order.now back.new }
 {
-    let mut k: usize = 0;
-    while k < n {
-        back[k] = order[n - 1 - k];
-        k += 1;
-    }
+    back[..n].copy_from_slice(&order[..n]);
+    back[..n].reverse();
 }
 
 // For each gate, what its latest time and the longest way on leave of the deadline. A gate's own delay stands in both times and counts once.
@@ -32,10 +28,9 @@ fn subtract_times(
     requires { Subtractable n times.now tails.now gate_delays.now deadline out.old }
     ensures { out.new ≡ over (build n (left_at times.now tails.now gate_delays.now deadline)) out.old }
 {
-    let mut g: usize = 0;
-    while g < n {
-        out[g] = left_of(deadline, times[g] + (tails[g] - gate_delays[g]));
-        g += 1;
+    for g in 0..n {
+        let through = times[g] + (tails[g] - gate_delays[g]);
+        out[g] = deadline as i32 - through as i32;
     }
 }
 

@@ -5,23 +5,23 @@ use Rattle.reaching.proofs.CurveLaws.{known, passed_on}
 use Rattle.reaching.proofs.TicksLaws.{ticks_beyond, ticks_few, ticks_given, earnings_fit}
 use Rattle.reaching.proofs.ticks_on_curve.Goals as goal
 
-pub returns-in_err-curve : goal.returns-in_err-curve
-returns-in_err-curve c =
+pub returns-in_err-head : goal.returns-in_err-head
+returns-in_err-head c =
     let p = err_from_is_err_and c.from_residual.result c.from_residual.ensures.1 in
-    rw (p.1, p.2) (λ file k. passed_on _ (rw c.in_err-curve.was at k))
+    rw (p.1, p.2) (λ file k. passed_on _ (rw c.in_err-head.was at k))
 
-pub ticks_for-reach-requires : goal.ticks_for-reach-requires
-ticks_for-reach-requires c =
-    let k = rw c.in_ok-curve.was at c.requires.1 in
+pub ticks_for-requires : goal.ticks_for-requires
+ticks_for-requires c =
+    let k = rw c.in_ok-head.was at c.requires.1 in
     (k.bounds.0, earnings_fit k)
 
 pub overflow_cast-result : goal.overflow_cast-result
 overflow_cast-result c =
-    let k = rw c.in_ok-curve.was at c.requires.1 in
-    omega (arith, ticks_few (known k) c.args.wanted (rw c.in-Ticks.is at c.ticks_for-reach.ensures))
+    let k = rw c.in_ok-head.was at c.requires.1 in
+    omega (arith, ticks_few (known k) c.args.wanted c.in-Some.ensures)
 
-pub returns-in-Ticks : goal.returns-in-Ticks
-returns-in-Ticks c = λ file k. ticks_given (known (rw c.in_ok-curve.was at k)) _ (rw c.in-Ticks.is at c.ticks_for-reach.ensures)
+pub returns-in-Some : goal.returns-in-Some
+returns-in-Some c = λ file k. ticks_given (known (rw c.in_ok-head.was at k)) _ c.in-Some.ensures
 
-pub returns-in-Beyond : goal.returns-in-Beyond
-returns-in-Beyond c = λ file k. ticks_beyond (known (rw c.in_ok-curve.was at k)) (rw c.in-Beyond.is at c.ticks_for-reach.ensures)
+pub returns-in-None : goal.returns-in-None
+returns-in-None c = λ file k. ticks_beyond (known (rw c.in_ok-head.was at k)) c.in-None.ensures

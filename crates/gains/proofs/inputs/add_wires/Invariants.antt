@@ -1,13 +1,7 @@
 -- `gains::inputs::add_wires` meets its contract: the sums over the first i wires stand in `out`. Assumes nothing.
-use mathlib.Core.Path.{◌≡◌}
-use Prim.Native.Nat.{◌≤◌, ◌-◌}
-use lib.ListN.{length}
 use Rattle.ordering.specs.Order.{SameBeyond}
 use Rattle.gains.proofs.Activities.{Brought}
 use Rattle.gains.proofs.inputs.add_wires.Given as goal
 
 abbrev pub invariant-loop-i : goal.invariant-loop-i
-invariant-loop-i l = (l.i ≤ l.m) × (length l.out ≡ length l.initial.out) × Brought l.n l.i l.sources l.targets l.activities l.out × SameBeyond l.n l.initial.out l.out
-
-abbrev pub decreases-loop-i : goal.decreases-loop-i
-decreases-loop-i l = l.m - l.i
+invariant-loop-i l = Brought l.n l.i l.sources l.targets l.activities l.out × SameBeyond l.n l.initial.out l.out

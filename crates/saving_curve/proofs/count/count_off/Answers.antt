@@ -9,27 +9,22 @@ pub loop-left-init : goal.loop-left-init
 loop-left-init c = rw c.front-next.ensures (counting_starts _ _)
 
 pub overflow_sub-left : goal.overflow_sub-left
-overflow_sub-left c =
-    turn_takes c.args.pairs c.args.widths.now c.args.gains.now c.args.ticks c.loop-left.next c.loop-left.left c.loop-left.earned c.take-taken.result c.take-taken.ensures
+overflow_sub-left c = turn_takes c.args.curve c.args.ticks c.loop-left.earned c.loop-left.next c.take-taken.ensures
 
-pub overflow_mul-earned : goal.overflow_mul-earned
-overflow_mul-earned c =
-    let all = turn_fits c.args.pairs c.args.widths.now c.args.gains.now c.args.ticks c.loop-left.next c.loop-left.left c.loop-left.earned c.take-taken.result c.take-taken.ensures c.loop-left.invariant c.requires in record { fits = omega arith }
+pub earned-earned-requires : goal.earned-earned-requires
+earned-earned-requires c = let all = turn_fits c.args.curve c.args.ticks c.loop-left.earned c.loop-left.next c.take-taken.ensures c.loop-left.invariant c.requires in omega arith
 
 pub overflow_add-earned : goal.overflow_add-earned
-overflow_add-earned c =
-    record { fits = turn_fits c.args.pairs c.args.widths.now c.args.gains.now c.args.ticks c.loop-left.next c.loop-left.left c.loop-left.earned c.take-taken.result c.take-taken.ensures c.loop-left.invariant c.requires }
+overflow_add-earned c = let all = turn_fits c.args.curve c.args.ticks c.loop-left.earned c.loop-left.next c.take-taken.ensures c.loop-left.invariant c.requires in omega arith
 
 pub loop-left-smaller : goal.loop-left-smaller
-loop-left-smaller c =
-    turn_shortens c.args.pairs c.args.widths.now c.args.gains.now c.args.ticks c.loop-left.next c.loop-left.left c.loop-left.earned c.take-taken.result c.take-taken.ensures c.loop-left-test.true c.if-next-pairs.true
+loop-left-smaller c = turn_shortens c.args.curve c.args.ticks c.loop-left.earned c.loop-left.next c.take-taken.ensures (omega arith) (omega arith)
 
 pub loop-left-preserved : goal.loop-left-preserved
-loop-left-preserved c =
-    turn_counts c.args.pairs c.args.widths.now c.args.gains.now c.args.ticks c.loop-left.next c.loop-left.left c.loop-left.earned c.take-taken.result c.take-taken.ensures c.loop-left.invariant
+loop-left-preserved c = rw c.earned-earned.ensures (turn_counts c.args.curve c.args.ticks c.loop-left.earned c.loop-left.next c.take-taken.ensures c.loop-left.invariant)
 
-pub returns-else-next-pairs : goal.returns-else-next-pairs
-returns-else-next-pairs c = counting_ends _ _ _ _ _ c.loop-left.invariant (inr (rw length_build c.if-next-pairs.false))
+pub returns-else-next-curve : goal.returns-else-next-curve
+returns-else-next-curve c = counting_ends _ _ _ _ _ c.loop-left.invariant (inr (rw length_build (omega arith)))
 
 pub returns-after-loop-left : goal.returns-after-loop-left
-returns-after-loop-left c = counting_ends _ _ _ _ _ c.loop-left.invariant (inl (omega (arith, c.loop-left-test.false)))
+returns-after-loop-left c = counting_ends _ _ _ _ _ c.loop-left.invariant (inl (omega arith))

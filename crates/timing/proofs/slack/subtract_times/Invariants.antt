@@ -1,13 +1,8 @@
 -- `timing::slack::subtract_times` meets its contract: the first g slacks are written. Assumes nothing.
 use mathlib.Core.Path.{◌≡◌}
-use Prim.Native.Nat.{◌≤◌, ◌-◌}
-use lib.ListN.{length}
 use Rattle.lists.specs.Over.{build, over}
 use Rattle.timing.specs.Slacks.{left_at}
 use Rattle.timing.proofs.slack.subtract_times.Given as goal
 
 abbrev pub invariant-loop-g : goal.invariant-loop-g
-invariant-loop-g l = (l.g ≤ l.n) × (length l.out ≡ length l.initial.out) × (l.out ≡ over (build l.g (left_at l.times l.tails l.gate_delays l.deadline)) l.initial.out)
-
-abbrev pub decreases-loop-g : goal.decreases-loop-g
-decreases-loop-g l = l.n - l.g
+invariant-loop-g l = l.out ≡ over (build l.g (left_at l.times l.tails l.gate_delays l.deadline)) l.initial.out

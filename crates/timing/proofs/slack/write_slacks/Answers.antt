@@ -3,9 +3,6 @@ use mathlib.Core.Path.{◌∙◌}
 use Rattle.timing.proofs.Slacks.{forward_able, back_able, subtractable, slacks_are}
 use Rattle.timing.proofs.slack.write_slacks.Goals as goal
 
-pub reverse_order-requires : goal.reverse_order-requires
-reverse_order-requires c = (c.requires.lent.gates, c.requires.order_long, c.requires.lent.gates)
-
 pub times_from-requires : goal.times_from-requires
 times_from-requires c = forward_able _ _ _ _ _ _ _ _ _ _ c.requires
 
@@ -14,9 +11,6 @@ times_from-requires-2 c = back_able _ _ _ _ _ _ _ _ _ _ c.requires _ c.reverse_o
 
 pub subtract_times-requires : goal.subtract_times-requires
 subtract_times-requires c = subtractable _ _ _ _ _ _ _ _ _ _ c.requires c.reverse_order.new.back c.times_from.new.times c.times_from-2.new.times c.reverse_order.ensures c.times_from.ensures c.times_from-2.ensures c.times_from.auto.times c.times_from-2.auto.times
-
-pub shape_of-out : goal.shape_of-out
-shape_of-out c = c.subtract_times.auto.out
 
 pub returns : goal.returns
 returns c = c.subtract_times.ensures ∙ slacks_are _ _ _ _ _ _ _ _ _ _ c.requires c.reverse_order.new.back c.times_from.new.times c.times_from-2.new.times c.reverse_order.ensures c.times_from.ensures c.times_from-2.ensures

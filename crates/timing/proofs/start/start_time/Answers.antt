@@ -1,16 +1,9 @@
 -- `timing::start::start_time` meets its contract: the latest time at the last gate. Assumes nothing.
-use native.Mathlib.Omega.{arith}
 use Rattle.timing.proofs.Starting.{start_timeable, start_found}
 use Rattle.timing.proofs.start.start_time.Goals as goal
 
 pub times_from-requires : goal.times_from-requires
 times_from-requires c = start_timeable _ _ _ _ _ _ _ c.requires
-
-pub overflow_sub-result : goal.overflow_sub-result
-overflow_sub-result c = c.requires.some
-
-pub bounds-times-n : goal.bounds-times-n
-bounds-times-n c = omega (arith, c.requires.some, c.requires.lent.gates)
 
 pub returns : goal.returns
 returns c = start_found _ _ _ _ _ _ _ c.requires c.times_from.new.times c.times_from.ensures

@@ -8,8 +8,5 @@ chain_wires-requires c = fresh_chains _ _ _ _ _ _ _ _ _ c.requires
 pub latest_times-requires : goal.latest_times-requires
 latest_times-requires c = once_chained _ _ _ _ _ _ _ _ _ c.requires _ _ c.chain_wires.auto.heads c.chain_wires.auto.links c.chain_wires.ensures
 
-pub shape_of-times : goal.shape_of-times
-shape_of-times c = c.latest_times.auto.times
-
 pub returns : goal.returns
 returns c = c.latest_times.ensures

@@ -1,7 +1,0 @@
--- `saving_curve::number::element` meets its contract: past the end of a list `get_or` gives its default. Assumes nothing.
-use mathlib.Core.Path.{sym}
-use lib.ListN.{get_or-eq_default}
-use Rattle.saving_curve.proofs.number.element.Goals as goal
-
-pub returns-else-i-xs : goal.returns-else-i-xs
-returns-else-i-xs c = sym (get_or-eq_default c.args.xs.now 0 c.if-i-xs.false)
