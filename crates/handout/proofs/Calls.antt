@@ -58,18 +58,11 @@ module _ {P : Plan} {S : State} {i : ℕ} (ready : Ready P S i) where
           room = ready.fresh.room (gate P.nodes j) g;
         }
 
-    pub gate_renewable : {x' : List ℕ} {G' : Stored} {w : ℕ} → kind P.nodes j ≡ 1
+    -- the gate at the end of the way has got the ticks
+    pub gate_gave : {x' : List ℕ} {G' : Stored} {w : ℕ} → kind P.nodes j ≡ 1
         → Added P.heads S.increases x' S.gates G' (gate P.nodes j) w
-        → Renewable P.nodes P.parents G' S.nodes j i
-    gate_renewable {x'} {G'} {w} s added =
-        renewable P S i ready j w ended.down _ (gate_given P S i ready j ended.down ended.stays s w x' G' added)
-
-    pub gate_done : {x' : List ℕ} {G' H'' : Stored} {w : ℕ} → kind P.nodes j ≡ 1
-        → Added P.heads S.increases x' S.gates G' (gate P.nodes j) w
-        → Renewed P.nodes P.parents G' S.nodes H'' j i
-        → GivenOut P S (record { increases = x'; gates = G'; nodes = H'' }) i w (parent P.parents i)
-    gate_done {x'} {G'} {H''} {w} s added =
-        way_given P S i ready j w ended.down _ (gate_given P S i ready j ended.down ended.stays s w x' G' added) H''
+        → GivenOut P S (record { increases = x'; gates = G'; nodes = S.nodes }) j w j
+    gate_gave {x'} {G'} {w} s added = gate_given P S i ready j ended.down ended.stays s w x' G' added
 
     pub item_falls : {t : ℕ} → in_series (wires (part P.nodes i)) ≡ t → in_parallel (wires (part P.nodes j)) < t
     item_falls e = omega (arith, (came P S i ready j ended.down).no_more)

@@ -48,12 +48,8 @@ module _ {block tree x words : List ℕ} {i w : ℕ} (can : CanGiveOut block tre
         moved : GateAdded (heads_of block) x x' words words' (gate (tree_nodes tree) j) w
         moved = rw eg at added
 
-        pub gate_renewable : CanRenew tree words' j i
-        gate_renewable = record { renewable = rw added.nodes (calls.gate_renewable can.ready ends.ended is_series moved.added) }
-
-        pub gate_done : {words'' : List ℕ} → NodesRenewed tree words' words'' j i → GaveOut block tree x words x' words'' i w (parent (tree_parents tree) i)
-        gate_done r =
-            record { given = rw r.gates (calls.gate_done can.ready ends.ended is_series moved.added (rw added.nodes at r.renewed)) }
+        pub gate_gave : GaveOut block tree x words x' words' j w j
+        gate_gave = record { given = rw added.nodes (calls.gate_gave can.ready ends.ended is_series moved.added) }
 
     -- a parallel part at the end of the way
     pub item_falls : {t : ℕ} → in_series (wires (part (tree_nodes tree) i)) ≡ t → in_parallel (wires (part (tree_nodes tree) j)) < t

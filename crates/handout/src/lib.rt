@@ -35,14 +35,13 @@ pub fn series_give_out(
     let j = descend(i, tree, &*heads);
     if kind_at(tree, j) == 1 {
         gate_give_out(gate_at(tree, j), w, block, increases, heads);
-        renew_up(j, i, tree, heads);
-        return;
+    } else {
+        parallel_give_out(j, w, block, tree, increases, heads);
     }
-    parallel_give_out(j, w, block, tree, increases, heads);
     renew_up(j, i, tree, heads);
 }
 
-// Hands out w ticks at parallel node i, to those of its sides that have a head. Its own head is left for the caller to renew.
+// Hands out w ticks at parallel node i, to those of its sides that have a head: `series_give_out` does nothing without one. Its own head is left for the caller to renew.
 #[cycle(parallel_give_out_series_give_out)]
 pub fn parallel_give_out(
     i: usize,
@@ -52,19 +51,12 @@ pub fn parallel_give_out(
     increases: &mut [u32],
     heads: &mut HeadWords,
 )
-    requires bound { 1 < kind (tree_nodes tree.now) i }
+    requires is_parallel { 1 < kind (tree_nodes tree.now) i }
     requires can_give_out { CanGiveOut block.now tree.now increases.old heads.old i w }
     ensures { GaveOut block.now tree.now increases.old heads.old increases.new heads.new i w i }
 {
     let left = left_at(tree, i);
     let right = right_at(tree, i);
-    if node_gain(&*heads, left) == 0 {
-        series_give_out(right, w, block, tree, increases, heads);
-        return;
-    }
     series_give_out(left, w, block, tree, increases, heads);
-    if node_gain(&*heads, right) == 0 {
-        return;
-    }
     series_give_out(right, w, block, tree, increases, heads);
 }

@@ -19,7 +19,6 @@ use Rattle.sizing.specs.Ticks.{TickedOut}
 use Rattle.sizing.specs.Raise.{root, Standing, Lifted, Levelled, Raisable, Raised}
 use Rattle.heads.proofs.Trees.{by_kind, part_wire, part_series, part_parallel}
 use Rattle.heads.proofs.Written.{local_renewed, local_beside, lent_put}
-use Rattle.heads.proofs.Locals.{gate_below}
 use Rattle.heads.proofs.Making.{can_make}
 use Rattle.handout.proofs.Handing.{placed}
 use Rattle.sizing.proofs.Apart.{share_none, gate_beyond}
@@ -223,18 +222,6 @@ module _ {P : Plan} {S : State} {i : ℕ} (standing : Standing P S i) (node : i 
                   sides_lifted d lifted (em ∙ rw (e, f, known.right (left N i) (omega (arith, below_left)), known.right (right N i) (omega (arith, below_right))))
                   (eq ∙ rw (e, f, known.right (left N i) (omega (arith, below_left)), known.right (right N i) (omega (arith, below_right))));
             }
-
-pub stands_at_first : {P : Plan} {S : State} → Raisable P S → Standing P S 0
-stands_at_first able =
-    record { sound = able.sound; above = able.above; lent = able.lent; fresh = able.fresh; local = λ k l. absurd (omega arith) }
-
-pub lifted_none : {P : Plan} {S : State} → Raisable P S → (d : ℕ → ℕ) → Lifted P d S.increases 0
-lifted_none {P} able d =
-    record {
-      raised = λ k l. absurd (omega arith);
-      waiting = λ k l nk e.
-          able.no_increase _ (gate_below P.nodes P.parents P.gate_count k able.sound.shaped nk e (able.sound.below k nk));
-    }
 
 -- once all nodes are raised, so is the whole
 module _ {P : Plan} {S S' : State} (able : Raisable P S) (same : length S'.increases ≡ length S.increases) where

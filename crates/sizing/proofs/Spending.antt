@@ -105,11 +105,9 @@ module _ {P : Plan} {S₀ : State} {i steps : ℕ} (able : Curvable P S₀ i ste
         no_change zero = refl
         no_change (suc f) = rw (eq-eqb _ 0 (is_next ∙ z))
 
-    module _ (some : ¬ (run ≡ 0)) where
+    module _ (some : 0 < run) where
       fits : (0 < (head_at S.nodes i).gain) × (run ≤ left) × (run ≤ (head_at S.nodes i).width)
-      fits =
-          let l : 0 < run = omega (arith, some) in
-          rw is (run_pos left (head_at S.nodes i).gain (head_at S.nodes i).width (rw is at l))
+      fits = rw is (run_pos left (head_at S.nodes i).gain (head_at S.nodes i).width (rw is at some))
 
       pub run_fits : Fitting S i run
       run_fits p = fits.2
@@ -147,7 +145,7 @@ module _ {P : Plan} {S₀ : State} {i steps : ℕ} (able : Curvable P S₀ i ste
           f = omega arith
 
           goes_on : ¬ (next_run P.heads t left S.increases ≡ 0)
-          goes_on z = some (sym is_next ∙ z)
+          goes_on z = omega (arith, is_next)
 
           gain_is : (head P.heads t (read t S.increases)).gain ≡ g
           gain_is = sym (eg ∙ ap (λ (a : Head). a.gain) stored_head)

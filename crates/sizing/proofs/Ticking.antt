@@ -1,6 +1,6 @@
 -- Ticks handed out at a node run by run: the ticks left, handed out from here on, lead to the same increases as all of them from the start on.
 -- Assumes nothing.
-use mathlib.Core.Path.{◌≡◌, refl, sym, ◌∙◌, ap}
+use mathlib.Core.Path.{◌≡◌, sym, ◌∙◌, ap}
 use mathlib.Core.Logic.{◌⊎◌, inl, inr}
 use Prim.Native.Nat.{ℕ, suc, ◌+◌, ◌-◌, ◌≤◌, ◌<◌, min}
 use native.Mathlib.Nat.{eq-zero-or-pos}
@@ -16,7 +16,7 @@ use Rattle.heads.specs.Plan.{Plan, part, parent}
 use Rattle.heads.specs.Stored.{Keeps, head_at}
 use Rattle.handout.specs.State.{State, Ready, Fitting, GivenOut}
 use Rattle.sizing.specs.Ticks.{TickedOut, run_of}
-use Rattle.heads.proofs.Written.{keeps_none, keeps_on}
+use Rattle.heads.proofs.Written.{keeps_on}
 use Rattle.handout.proofs.Handing.{node_head, placed}
 
 pub run_none : (ticks gain width : ℕ) → gain ≡ 0 → 0 ≡ run_of ticks gain width
@@ -53,9 +53,6 @@ pub record Underway (P : Plan) (S S' : State) (i ticks left : ℕ) : Type 0 wher
   pub ready : Ready P S' i
   pub leads_there : ticks_list P.heads (part P.nodes i) left S'.increases ≡ ticks_list P.heads (part P.nodes i) ticks S.increases
   pub keeps : Keeps P.nodes S.gates S.nodes S'.gates S'.nodes (parent P.parents i)
-
-pub starts : {P : Plan} {S : State} {i : ℕ} → Ready P S i → (ticks : ℕ) → Underway P S S i ticks ticks
-starts {P} {S} {i} ready ticks = record { ready = ready; leads_there = refl; keeps = keeps_none P.nodes S.gates S.nodes _ }
 
 module _ {P : Plan} {S S' : State} {i ticks left : ℕ} (on : Underway P S S' i ticks left) where
   abbrev t : Tree

@@ -1,6 +1,5 @@
 // Ticks spent at a node run by run, and the curve of the runs: neighbours of one gain are joined. With ticks for all steps it is the curve of the node.
 ghost use Rattle.std.specs.Prelude.{◌≡◌, ℕ, ◌+◌, ◌-◌, ◌^◌, ◌≤◌, ◌<◌, length, get_or};
-ghost use Rattle.lists.specs.Search.{Says};
 ghost use Rattle.heads.specs.Plan.{plan, StepsHeld};
 ghost use Rattle.handout.specs.State.{state};
 ghost use Rattle.sizing.specs.Pairs.{Noted, Curvable, Spent};
@@ -13,20 +12,6 @@ use heads::store::node_entry;
 use planting::tree_words::TreeWords;
 use ties::gain_in;
 
-// Whether the last of `count` pairs has this gain.
-fn continues(count: usize, gain: u64, pair_gains: &[u64]) -> bool
-    requires { count ≤ length pair_gains.now }
-    ensures { Says ((0 < count) × (get_or pair_gains.now (count - 1) 0 ≡ gain)) result }
-{
-    if count == 0 {
-        return false;
-    }
-    if pair_gains[count - 1] == gain {
-        return true;
-    }
-    false
-}
-
 // Notes a run behind `count` pairs, joined to the last of them where the gain is the same. Answers how many pairs there are then.
 fn note(
     count: usize,
@@ -36,11 +21,11 @@ fn note(
     pair_gains: &mut [u64],
 ) -> usize
     requires count_in_bounds { (count < length pair_widths.old) × (count < length pair_gains.old) }
-    requires by_index { (i : ℕ) → i < count → get_or pair_widths.old i 0 + width < 2 ^ 32 }
+    requires widths_fit { (i : ℕ) → i < count → get_or pair_widths.old i 0 + width < 2 ^ 32 }
     ensures { Noted count result pair_widths.old pair_gains.old pair_widths.new pair_gains.new width gain }
 {
-    if continues(count, gain, &*pair_gains) {
-        pair_widths[count - 1] = pair_widths[count - 1] + width;
+    if 0 < count && pair_gains[count - 1] == gain {
+        pair_widths[count - 1] += width;
         return count;
     }
     pair_widths[count] = width;
@@ -67,18 +52,15 @@ pub fn spend_ticks(
     ensures { Spent (plan block.now tree.now) increases.old increases.new i ticks steps result pair_widths.old pair_gains.old pair_widths.new pair_gains.new }
 {
     let mut left = ticks;
-    let mut count: usize = 0;
-    let mut k: usize = 0;
-    while k < steps {
+    let mut count = 0;
+    for _k in 0..steps {
         let head = node_entry(&*heads, i);
-        let run = next_run(left, head);
-        if run == 0 {
+        let Some(run) = next_run(left, head) else {
             return count;
-        }
+        };
         count = note(count, run, gain_in(head.key), pair_widths, pair_gains);
         series_give_out(i, run, block, tree, increases, heads);
         left -= run;
-        k += 1;
     }
     count
 }

@@ -25,7 +25,7 @@ fn length_of(i: usize, tree: &TreeWords, delays: &[u32], lengths: &[u32]) -> u32
     if kind == 1 {
         return left + delays[index(gate_at(tree, i))] + right;
     }
-    if left < right { right } else { left }
+    left.max(right)
 }
 
 // How long the part of each node lasts.
@@ -33,10 +33,7 @@ pub fn part_lengths(tree: &TreeWords, delays: &[u32], lengths: &mut [u32])
     requires { Measurable (tree_nodes tree.now) delays.now lengths.old }
     ensures { Lengths (tree_nodes tree.now) (delays_in delays.now) lengths.new (node_count (tree_nodes tree.now)) }
 {
-    let count = node_count(tree);
-    let mut i: usize = 0;
-    while i < count {
+    for i in 0..node_count(tree) {
         lengths[i] = length_of(i, tree, delays, &*lengths);
-        i += 1;
     }
 }

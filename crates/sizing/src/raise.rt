@@ -12,13 +12,6 @@ use heads::head_words::HeadWords;
 use heads::tree::{kind_at, left_at, node_count, right_at};
 use planting::tree_words::TreeWords;
 
-// How much b is short of a.
-fn shortfall(a: u32, b: u32) -> u32
-    ensures { result ≡ a - b }
-{
-    if b < a { a - b } else { 0 }
-}
-
 // Raises the shorter side of node i, if it is a parallel node. `lengths` holds how long each part lasts with no increase.
 fn raise_sides(
     i: usize,
@@ -31,7 +24,7 @@ fn raise_sides(
     requires standing { Standing (plan block.now tree.now) (state increases.old heads.old) i }
     requires steps_held { StepsHeld block.now }
     requires i_bound { (i < node_count (tree_nodes tree.now)) × (node_count (tree_nodes tree.now) ≤ length lengths.now) }
-    ensures standing_2 { Standing (plan block.now tree.now) (state increases.new heads.new) i }
+    ensures still_standing { Standing (plan block.now tree.now) (state increases.new heads.new) i }
     ensures levelled { Levelled (plan block.now tree.now) lengths.now increases.old increases.new i }
 {
     if kind_at(tree, i) < 2 {
@@ -39,8 +32,10 @@ fn raise_sides(
     }
     let left = left_at(tree, i);
     let right = right_at(tree, i);
-    let more_left = shortfall(lengths[right], lengths[left]);
-    let more_right = shortfall(lengths[left], lengths[right]);
+    let left_length = lengths[left];
+    let right_length = lengths[right];
+    let more_left = right_length.saturating_sub(left_length);
+    let more_right = left_length.saturating_sub(right_length);
     ticks_out(left, more_left, block, tree, increases, heads);
     ticks_out(right, more_right, block, tree, increases, heads);
 }
@@ -58,11 +53,8 @@ pub fn raise_and_fill(
     requires tree_in_bounds { node_count (tree_nodes tree.now) ≤ length lengths.now }
     ensures { (d : ℕ → ℕ) → Lengths (tree_nodes tree.now) d lengths.now (node_count (tree_nodes tree.now)) → Raised (plan block.now tree.now) d (state increases.new heads.new) }
 {
-    let count = node_count(tree);
-    let mut i: usize = 0;
-    while i < count {
+    for i in 0..node_count(tree) {
         raise_sides(i, block, tree, lengths, increases, heads);
         renew(i, tree, heads);
-        i += 1;
     }
 }

@@ -1,5 +1,5 @@
 // Ticks handed out at a node run by run: to raise a branch, or to find the increases after so many ticks.
-ghost use Rattle.std.specs.Prelude.{◌≡◌, ◌<◌, min};
+ghost use Rattle.std.specs.Prelude.{◌≡◌, ◌<◌, MatchOption};
 ghost use Rattle.planting.specs.TreeWords.{tree_parents};
 ghost use Rattle.ties.specs.Code.{head_of};
 ghost use Rattle.heads.specs.Plan.{plan, parent, StepsHeld};
@@ -13,21 +13,16 @@ use heads::store::node_entry;
 use planting::tree_words::TreeWords;
 use ties::{Head, gain_in};
 
-// How many of so many ticks a head of this width takes.
-fn within(ticks: u64, width: u64) -> u64
-    ensures { result ≡ min ticks width }
-{
-    if ticks < width { ticks } else { width }
-}
-
-// How many ticks the next run has: as many as are left, at most the width of the head; none without a head.
-pub fn next_run(ticks: u32, head: Head) -> u32
-    ensures { result ≡ run_of ticks (head_of head).gain (head_of head).width }
+// How many ticks the next run has: as many as are left, at most the width of the head. None where no tick is left or there is no head.
+#[tactic(auto, unfolding(crate::specs::Ticks::run_of))]
+pub fn next_run(ticks: u32, head: Head) -> Option<u32>
+    ensures { MatchOption result (run_of ticks (head_of head).gain (head_of head).width ≡ 0) (λ run. (0 < run) × (run ≡ run_of ticks (head_of head).gain (head_of head).width)) }
 {
     if gain_in(head.key) == 0 {
-        return 0;
+        return None;
     }
-    within(ticks as u64, head.width) as u32
+    let run = u64::from(ticks).min(head.width) as u32;
+    if run == 0 { None } else { Some(run) }
 }
 
 // Hands out `ticks` ticks at node i, run by run, as far as its gates go.
@@ -45,10 +40,8 @@ pub fn ticks_out(
     ensures { TickedOut (plan block.now tree.now) (state increases.old heads.old) (state increases.new heads.new) i ticks }
 {
     let mut left = ticks;
-    let mut run = next_run(left, node_entry(&*heads, i));
-    while 0 < run {
+    while let Some(run) = next_run(left, node_entry(&*heads, i)) {
         series_give_out(i, run, block, tree, increases, heads);
         left -= run;
-        run = next_run(left, node_entry(&*heads, i));
     }
 }

@@ -9,7 +9,7 @@ ghost use Rattle.ties.specs.Code.{ranks, head_of};
 // One more than the greatest rank in a key.
 const RANKS: u64 = 256;
 
-// What a gate or a part would do with one more tick: the next `width` ticks gain the same. The key is gain * RANKS + (RANKS - 1 - rank). A gain of 0 says that there is none.
+// What a gate or a part would do with one more tick: the next `width` ticks gain the same. The key is gain * RANKS + (RANKS - 1 - rank). A gain of 0 says that there is none: no Option, since such a head is compared and stored as any other.
 #[derive(Clone, Copy)]
 pub struct Head {
     pub key: u64,
@@ -17,6 +17,7 @@ pub struct Head {
 }
 
 // The head with this width, gain and rank.
+#[tactic(auto, using(crate::proofs::Keys::head_back))]
 pub fn keyed(width: u64, gain: u64, rank: u64) -> Head
     requires { (gain < 2 ^ 56) × (rank < ranks) }
     ensures { head_of result ≡ record { width = width; gain = gain; rank = rank } }
@@ -56,6 +57,7 @@ pub fn rank(n: u32, g: u32) -> u32
 }
 
 // Whether a comes before b: a greater gain, or the same gain and a smaller rank.
+#[tactic(auto, unfolding(optimum::specs::Head::leads))]
 pub fn leads(a: Head, b: Head) -> bool
     ensures { result ≡ comes_first (head_of a) (head_of b) }
 {
@@ -63,49 +65,27 @@ pub fn leads(a: Head, b: Head) -> bool
 }
 
 // The head of a series part with the items a, b and c.
+#[tactic(auto, unfolding(optimum::specs::Head::turn))]
 pub fn best_of(a: Head, b: Head, c: Head) -> Head
     ensures { head_of result ≡ best_of (head_of a) (head_of b) (head_of c) }
 {
-    if leads(b, a) {
-        if leads(c, b) {
-            return c;
-        }
-        return b;
-    }
-    if leads(c, a) {
-        return c;
-    }
-    a
-}
-
-fn smaller(x: u64, y: u64) -> u64
-    ensures { result ≡ min x y }
-{
-    if x < y { x } else { y }
-}
-
-fn larger(x: u64, y: u64) -> u64
-    ensures { result ≡ max x y }
-{
-    if x < y { y } else { x }
+    let first = if leads(b, a) { b } else { a };
+    if leads(c, first) { c } else { first }
 }
 
 // The head of a parallel part with the sides a and b. For the crates above, whose gains have room for a sum.
+#[tactic(auto, unfolding(optimum::specs::Head::beside))]
 pub fn beside(a: Head, b: Head) -> Head
     requires { (head_of a).gain + (head_of b).gain < 2 ^ 56 }
     ensures { head_of result ≡ side_by_side (head_of a) (head_of b) }
 {
-    let gain_a = gain_in(a.key);
-    let gain_b = gain_in(b.key);
-    if gain_a == 0 {
-        return b;
+    match (gain_in(a.key), gain_in(b.key)) {
+        (0, _) => b,
+        (_, 0) => a,
+        (gain_a, gain_b) => keyed(
+            a.width.min(b.width),
+            gain_a + gain_b,
+            rank_in(a.key).max(rank_in(b.key)),
+        ),
     }
-    if gain_b == 0 {
-        return a;
-    }
-    keyed(
-        smaller(a.width, b.width),
-        gain_a + gain_b,
-        larger(rank_in(a.key), rank_in(b.key)),
-    )
 }
