@@ -3,7 +3,7 @@
 #![tactic(auto)]
 
 ghost use Rattle.std.specs.Prelude.{◌+◌, ◌≤◌, length};
-ghost use Rattle.model.specs.Limits.{max_gates, max_pairs};
+ghost use Rattle.model.specs.Limits.{max_bytes, max_gates, max_pairs};
 
 use loading::numbers::numbers_of;
 use model::limits::{MAX_BYTES, MAX_GATES, MAX_PAIRS};
@@ -58,7 +58,7 @@ const WANTED_BYTES: usize = SAVINGS * SAVING_BYTES;
 // Bytes of a record's head.
 const HEAD_BYTES: usize = 13;
 
-// The head of a record: how long its block file is, how many elements are lent, a gate and an increase beyond its widths, and how many savings are wanted.
+// The head of a record: how long its block file is, how many elements are lent, a gate and an increase beyond its widths, and how many savings are wanted; no more of each than there is room for.
 #[derive(Clone, Copy)]
 struct Head {
     file_bytes: usize,
@@ -68,19 +68,20 @@ struct Head {
     gate: usize,
     beyond: u32,
     savings: usize,
+    ghost has_room: { (file_bytes ≤ max_bytes) × (lent ≤ max_gates + 4) × (lent_widths ≤ max_pairs + 8) × (lent_gains ≤ max_pairs + 8) × (savings ≤ 8) },
 }
 
 impl From<[u8; HEAD_BYTES]> for Head {
     fn from(bytes: [u8; HEAD_BYTES]) -> Self {
         let pair = |at: usize| usize::from(u16::from_be_bytes([bytes[at], bytes[at + 1]]));
         Head {
-            file_bytes: pair(0),
-            lent: usize::from(bytes[2]),
-            lent_widths: pair(3),
-            lent_gains: pair(5),
+            file_bytes: pair(0).min(MAX_BYTES),
+            lent: usize::from(bytes[2]).min(LENT),
+            lent_widths: pair(3).min(LENT_PAIRS),
+            lent_gains: pair(5).min(LENT_PAIRS),
             gate: usize::from(bytes[7]),
             beyond: u32::from_be_bytes([bytes[8], bytes[9], bytes[10], bytes[11]]),
-            savings: usize::from(bytes[12]),
+            savings: usize::from(bytes[12]).min(SAVINGS),
         }
     }
 }
@@ -292,22 +293,27 @@ fn print_judgements(
 // The best increases, to an array of marks; the fewest ticks; and the judging of the increases and of lists that differ from them at one gate.
 fn run_list(
     rt: &impl Print,
-    file: &[u8],
+    head: Head,
     wanted: &[u8],
-    lent: usize,
+    file: &[u8],
     gates: usize,
-    gate: usize,
-    beyond: u32,
     list: &mut [u32],
 ) -> io::Result<()>
-    requires { lent ≤ length list.old }
+    requires { head.lent ≤ length list.old }
 {
-    lend_best(rt, file, lent, list)?;
+    lend_best(rt, file, head.lent, list)?;
     print_ticks(rt, file, wanted)?;
-    print_judgements(rt, file, gates, gate, beyond, &mut list[..lent])
+    print_judgements(
+        rt,
+        file,
+        gates,
+        head.gate,
+        head.beyond,
+        &mut list[..head.lent],
+    )
 }
 
-// One record, of whose head the savings and the file are read.
+// One record.
 fn run_case(
     rt: &impl Print,
     number: u64,
@@ -316,42 +322,9 @@ fn run_case(
     file: &[u8],
 ) -> io::Result<()> {
     println!(rt; "case {number}")?;
-    let lent = head.lent.min(LENT);
-    let gates = run_slacks(rt, file, lent)?;
-    run_curve(
-        rt,
-        file,
-        head.lent_widths.min(LENT_PAIRS),
-        head.lent_gains.min(LENT_PAIRS),
-    )?;
-    let mut list = [MARK; LENT];
-    run_list(
-        rt,
-        file,
-        wanted,
-        lent,
-        gates,
-        head.gate,
-        head.beyond,
-        &mut list,
-    )
-}
-
-// Reads a record's block file into `file` and runs the record, or answers false where the input ends.
-fn run_file(
-    rt: &impl Print,
-    input: &mut impl Read,
-    number: u64,
-    head: Head,
-    wanted: &[u8],
-    file: &mut [u8],
-) -> io::Result<bool> {
-    let size = head.file_bytes.min(file.len());
-    if read_full(input, &mut file[..size])? < size {
-        return Ok(false);
-    }
-    run_case(rt, number, head, wanted, &file[..size])?;
-    Ok(true)
+    let gates = run_slacks(rt, file, head.lent)?;
+    run_curve(rt, file, head.lent_widths, head.lent_gains)?;
+    run_list(rt, head, wanted, file, gates, &mut [MARK; LENT])
 }
 
 // Reads a record and runs it, or answers false where the input ends.
@@ -361,13 +334,18 @@ fn run_next(rt: &impl Print, input: &mut impl Read, number: u64) -> io::Result<b
         return Ok(false);
     }
     let head = Head::from(bytes);
-    let mut wanted = [0u8; WANTED_BYTES];
-    let size = head.savings.min(SAVINGS) * SAVING_BYTES;
-    if read_full(input, &mut wanted[..size])? < size {
+    let mut savings = [0u8; WANTED_BYTES];
+    let wanted = &mut savings[..head.savings * SAVING_BYTES];
+    if read_full(input, wanted)? < wanted.len() {
         return Ok(false);
     }
-    let mut file = [0u8; MAX_BYTES];
-    run_file(rt, input, number, head, &wanted[..size], &mut file)
+    let mut room = [0u8; MAX_BYTES];
+    let file = &mut room[..head.file_bytes];
+    if read_full(input, file)? < file.len() {
+        return Ok(false);
+    }
+    run_case(rt, number, head, wanted, file)?;
+    Ok(true)
 }
 
 // At most a million records.
