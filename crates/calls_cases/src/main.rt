@@ -2,9 +2,6 @@
 // Standard input: records, each the length of a block file (2 bytes), four increases of 4 bytes each, and the file's bytes.
 #![tactic(auto)]
 
-ghost use Rattle.std.specs.Prelude.{◌≡◌, ◌+◌, ◌≤◌, length};
-
-use fields::field::number_at;
 use loading::numbers::numbers_of;
 use model::Refusal;
 use reading::read_full;
@@ -15,37 +12,32 @@ use std::io;
 // Bytes of the input, at most.
 const INPUT_BYTES: usize = 65536;
 
+// What the elements for slacks hold before a call.
+const MARK: i32 = 77777;
+
+// Bytes of a record in front of the file.
+const CASE_BYTES: usize = 18;
+
 fn print_number(rt: &impl Print, n: u64) -> io::Result<()> {
     print!(rt; " {n}")
-}
-
-// Prints a slack, or that it is below 0.
-fn print_slack(rt: &impl Print, x: i32) -> io::Result<()> {
-    if x < 0 {
-        print!(rt; " late")
-    } else {
-        print_number(rt, x as u64)
-    }
-}
-
-fn end_line(rt: &impl Print) -> io::Result<()> {
-    println!(rt)
 }
 
 // A refusal's number and place.
 fn print_refusal(rt: &impl Print, refusal: Refusal) -> io::Result<()> {
     let numbers = numbers_of(refusal);
-    print!(rt; " refused")?;
-    print_number(rt, numbers.number as u64)?;
-    print_number(rt, numbers.place as u64)
+    print!(rt; " refused {} {}", numbers.number, numbers.place)
 }
 
-// Prints the elements of a slice.
+// The elements of a slice, or that they are below 0.
 fn print_slacks(rt: &impl Print, xs: &[i32]) -> io::Result<()> {
     for x in xs {
-        print_slack(rt, *x)?;
+        if *x < 0 {
+            print!(rt; " late")?;
+        } else {
+            print!(rt; " {x}")?;
+        }
     }
-    Ok(())
+    println!(rt)
 }
 
 fn print_slacks_answer(rt: &impl Print, answer: Result<usize, Refusal>) -> io::Result<()> {
@@ -57,18 +49,11 @@ fn print_slacks_answer(rt: &impl Print, answer: Result<usize, Refusal>) -> io::R
     print!(rt; " :")
 }
 
-// The slacks, to six elements that are 77777 before, and to three.
-fn run_slacks(rt: &impl Print, file: &[u8]) -> io::Result<()> {
-    let mut out = [77777i32; 6];
-    let answer = slacks(file, &mut out);
+// The slacks, to the elements of a slice.
+fn run_slacks(rt: &impl Print, file: &[u8], out: &mut [i32]) -> io::Result<()> {
+    let answer = slacks(file, out);
     print_slacks_answer(rt, answer)?;
-    print_slacks(rt, &out)?;
-    end_line(rt)?;
-    let mut short = [77777i32; 3];
-    let answer = slacks(file, &mut short);
-    print_slacks_answer(rt, answer)?;
-    print_slacks(rt, &short)?;
-    end_line(rt)
+    print_slacks(rt, out)
 }
 
 fn print_judge_answer(rt: &impl Print, answer: Result<u64, Refusal>) -> io::Result<()> {
@@ -77,38 +62,29 @@ fn print_judge_answer(rt: &impl Print, answer: Result<u64, Refusal>) -> io::Resu
         Err(refusal) => print_refusal(rt, refusal)?,
         Ok(saving) => print_number(rt, saving)?,
     }
-    end_line(rt)
-}
-
-// The number of four bytes, high byte first, at a place.
-fn four_bytes(s: &[u8], at: usize) -> u32
-    requires { at + 4 ≤ length s.now }
-{
-    number_at(s, at) * 65536 + number_at(s, at + 2)
+    println!(rt)
 }
 
 // The verdict on the four increases of a record, and on the first three alone.
-fn run_judge(rt: &impl Print, file: &[u8], case: &[u8]) -> io::Result<()>
-    requires { length case.now ≡ 18 }
-{
-    let a = four_bytes(case, 2);
-    let b = four_bytes(case, 6);
-    let c = four_bytes(case, 10);
-    let d = four_bytes(case, 14);
-    let increases = [a, b, c, d];
+fn run_judge(rt: &impl Print, file: &[u8], case: &[u8; CASE_BYTES]) -> io::Result<()> {
+    let mut increases = [0u32; 4];
+    for (increase, bytes) in increases.iter_mut().zip(case[2..].as_chunks::<4>().0) {
+        *increase = u32::from_be_bytes(*bytes);
+    }
     print_judge_answer(rt, judge(file, &increases))?;
-    let short = [a, b, c];
-    print_judge_answer(rt, judge(file, &short))
+    print_judge_answer(rt, judge(file, &increases[..3]))
 }
 
 // All records of an input.
 fn run_all(rt: &impl Print, input: &[u8]) -> io::Result<()> {
     let mut rest = input;
-    while let Some((case, after)) = rest.split_at_checked(18) {
-        let Some((file, next)) = after.split_at_checked(number_at(case, 0) as usize) else {
+    while let Some((case, after)) = rest.split_first_chunk::<CASE_BYTES>() {
+        let size = usize::from(u16::from_be_bytes([case[0], case[1]]));
+        let Some((file, next)) = after.split_at_checked(size) else {
             return Ok(());
         };
-        run_slacks(rt, file)?;
+        run_slacks(rt, file, &mut [MARK; 6])?;
+        run_slacks(rt, file, &mut [MARK; 3])?;
         run_judge(rt, file, case)?;
         rest = next;
     }

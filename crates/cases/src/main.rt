@@ -2,10 +2,9 @@
 // Numbers and refusals come first, each printed with a blank in front; then the calls that write to lent slices, whose arrays hold a mark in every element before a call; then the fewest ticks; then judging; then the records.
 #![tactic(auto)]
 
-ghost use Rattle.std.specs.Prelude.{◌≡◌, ◌+◌, ◌*◌, ◌≤◌, length};
-ghost use Rattle.model.specs.Limits.{max_gates, max_pairs};
+ghost use Rattle.std.specs.Prelude.{◌+◌, ◌≤◌, length};
+ghost use Rattle.model.specs.Limits.{max_bytes, max_gates, max_pairs};
 
-use fields::field::{number_at, wide};
 use loading::numbers::numbers_of;
 use model::Refusal;
 use model::limits::{MAX_BYTES, MAX_GATES, MAX_PAIRS};
@@ -15,50 +14,25 @@ use resizing::curve::curve;
 use resizing::judge::judge;
 use resizing::slacks::slacks;
 use resizing::ticks::fewest_ticks;
+use std::fmt::Display;
 use std::io;
 use std::io::Read;
 
-fn end_line(rt: &impl Print) -> io::Result<()> {
-    println!(rt)
-}
-
-fn print_number(rt: &impl Print, n: u64) -> io::Result<()> {
+// A number, with a blank in front.
+fn print_number(rt: &impl Print, n: impl Display + Copy) -> io::Result<()> {
     print!(rt; " {n}")
-}
-
-fn print_u32(rt: &impl Print, x: u32) -> io::Result<()> {
-    print_number(rt, x as u64)
-}
-
-// How far a number is below 0.
-fn below_zero(x: i32) -> u64 {
-    if x < 0 { x.unsigned_abs() as u64 } else { 0 }
-}
-
-// A slack, with a minus sign in front of a negative one.
-fn print_slack(rt: &impl Print, x: i32) -> io::Result<()> {
-    if x < 0 {
-        let below = below_zero(x);
-        print!(rt; " -{below}")
-    } else {
-        print_number(rt, x as u64)
-    }
 }
 
 // A refusal on a line of its own call.
 fn print_refused(rt: &impl Print, refusal: Refusal) -> io::Result<()> {
     let refused = numbers_of(refusal);
-    print!(rt; " refused")?;
-    print_number(rt, refused.number as u64)?;
-    print_number(rt, refused.place as u64)
+    print!(rt; " refused {} {}", refused.number, refused.place)
 }
 
 // A refusal among other answers.
 fn print_refusal(rt: &impl Print, refusal: Refusal) -> io::Result<()> {
     let refused = numbers_of(refusal);
-    print_number(rt, refused.number as u64)?;
-    let place = refused.place;
-    print!(rt; ":{place}")
+    print!(rt; " {}:{}", refused.number, refused.place)
 }
 
 const MARK: u32 = 2863311530;
@@ -73,66 +47,74 @@ const LENT: usize = MAX_GATES + 4;
 // Elements of the arrays for widths and gains: some more than any curve has pairs.
 const LENT_PAIRS: usize = MAX_PAIRS + 8;
 
-// Bytes of the wanted savings of a record, at most: eight savings of eight bytes.
-const WANTED_BYTES: usize = 8 * 8;
+// Wanted savings of a record, at most.
+const SAVINGS: usize = 8;
 
-// Whether every element from a place on holds the mark.
-fn marked_from(xs: &[u32], from: usize) -> bool {
-    xs.iter().skip(from).all(|x| *x == MARK)
+// Bytes of a wanted saving.
+const SAVING_BYTES: usize = 8;
+
+const WANTED_BYTES: usize = SAVINGS * SAVING_BYTES;
+
+// Bytes of a record's head.
+const HEAD_BYTES: usize = 13;
+
+// The head of a record: how long its block file is, how many elements are lent, a gate and an increase beyond its widths, and how many savings are wanted; no more of each than there is room for.
+#[derive(Clone, Copy)]
+struct Head {
+    file_bytes: usize,
+    lent: usize,
+    lent_widths: usize,
+    lent_gains: usize,
+    gate: usize,
+    beyond: u32,
+    savings: usize,
+    ghost has_room: { (file_bytes ≤ max_bytes) × (lent ≤ max_gates + 4) × (lent_widths ≤ max_pairs + 8) × (lent_gains ≤ max_pairs + 8) × (savings ≤ 8) },
 }
 
-// The same for gains.
-fn gains_marked_from(xs: &[u64], from: usize) -> bool {
-    xs.iter().skip(from).all(|x| *x == GAIN_MARK)
+impl From<[u8; HEAD_BYTES]> for Head {
+    fn from(bytes: [u8; HEAD_BYTES]) -> Self {
+        let pair = |at: usize| usize::from(u16::from_be_bytes([bytes[at], bytes[at + 1]]));
+        Head {
+            file_bytes: pair(0).min(MAX_BYTES),
+            lent: usize::from(bytes[2]).min(LENT),
+            lent_widths: pair(3).min(LENT_PAIRS),
+            lent_gains: pair(5).min(LENT_PAIRS),
+            gate: usize::from(bytes[7]),
+            beyond: u32::from_be_bytes([bytes[8], bytes[9], bytes[10], bytes[11]]),
+            savings: usize::from(bytes[12]).min(SAVINGS),
+        }
+    }
+}
+
+// Whether every element from a place on holds the mark.
+fn marked_from<T: PartialEq>(xs: &[T], mark: &T, from: usize) -> bool {
+    xs.iter().skip(from).all(|x| x == mark)
 }
 
 // The same for widths and gains.
 fn pairs_marked_from(widths: &[u32], gains: &[u64], from: usize) -> bool {
-    marked_from(widths, from) && gains_marked_from(gains, from)
-}
-
-// The same for slacks.
-fn slacks_marked_from(xs: &[i32], from: usize) -> bool {
-    xs.iter().skip(from).all(|x| *x == SLACK_MARK)
+    marked_from(widths, &MARK, from) && marked_from(gains, &GAIN_MARK, from)
 }
 
 fn print_kept(rt: &impl Print, kept: bool) -> io::Result<()> {
-    if kept {
-        print!(rt; " kept")?;
-    } else {
-        print!(rt; " changed")?;
-    }
-    end_line(rt)
+    let word = if kept { "kept" } else { "changed" };
+    println!(rt; " {word}")
 }
 
-// The first n slacks, or all that there are.
-fn print_slacks(rt: &impl Print, xs: &[i32], n: usize) -> io::Result<()> {
+// The first n numbers, or all that there are.
+fn print_first(rt: &impl Print, xs: &[impl Display], n: usize) -> io::Result<()> {
     for x in xs.iter().take(n) {
-        print_slack(rt, *x)?;
-    }
-    Ok(())
-}
-
-// The first n increases, or all that there are.
-fn print_increases(rt: &impl Print, xs: &[u32], n: usize) -> io::Result<()> {
-    for x in xs.iter().take(n) {
-        print_u32(rt, *x)?;
+        print!(rt; " {x}")?;
     }
     Ok(())
 }
 
 // The first n pairs, or all that there are.
 fn print_pairs(rt: &impl Print, widths: &[u32], gains: &[u64], n: usize) -> io::Result<()> {
-    for (width, gain) in widths.iter().zip(gains.iter()).take(n) {
-        print_u32(rt, *width)?;
-        print_number(rt, *gain)?;
+    for (width, gain) in widths.iter().zip(gains).take(n) {
+        print!(rt; " {width} {gain}")?;
     }
     Ok(())
-}
-
-// Zeros in every element.
-fn clear(list: &mut [u32]) {
-    list.fill(0);
 }
 
 // The slacks, with the front of an array of marks lent. Answers the number of gates, 0 for a refusal.
@@ -144,12 +126,12 @@ fn lend_slacks(rt: &impl Print, file: &[u8], lent: usize, out: &mut [i32]) -> io
     match answer {
         Err(refusal) => {
             print_refused(rt, refusal)?;
-            print_kept(rt, slacks_marked_from(out, 0))?;
+            print_kept(rt, marked_from(out, &SLACK_MARK, 0))?;
             Ok(0)
         }
         Ok(gates) => {
-            print_slacks(rt, out, gates)?;
-            print_kept(rt, slacks_marked_from(out, gates))?;
+            print_first(rt, out, gates)?;
+            print_kept(rt, marked_from(out, &SLACK_MARK, gates))?;
             Ok(gates)
         }
     }
@@ -182,7 +164,7 @@ fn lend_curve(
             print_kept(rt, pairs_marked_from(widths, gains, 0))
         }
         Ok(found) => {
-            print_u32(rt, found.start)?;
+            print_number(rt, found.start)?;
             print_number(rt, found.at_start)?;
             print_number(rt, found.pairs as u64)?;
             print_pairs(rt, widths, gains, found.pairs)?;
@@ -209,30 +191,16 @@ fn lend_best(rt: &impl Print, file: &[u8], lent: usize, list: &mut [u32]) -> io:
     match answer {
         Err(refusal) => {
             print_refused(rt, refusal)?;
-            print_kept(rt, marked_from(list, 0))?;
-            clear(list);
+            print_kept(rt, marked_from(list, &MARK, 0))?;
+            list.fill(0);
             Ok(())
         }
         Ok(found) => {
             print_number(rt, found.saving)?;
-            print_increases(rt, list, found.gates)?;
-            print_kept(rt, marked_from(list, found.gates))
+            print_first(rt, list, found.gates)?;
+            print_kept(rt, marked_from(list, &MARK, found.gates))
         }
     }
-}
-
-// The number of four bytes, high byte first, at a place.
-fn four_bytes(s: &[u8], at: usize) -> u32
-    requires { at + 4 ≤ length s.now }
-{
-    number_at(s, at) * 65536 + number_at(s, at + 2)
-}
-
-// The number of eight bytes, high byte first, at a place.
-fn eight_bytes(s: &[u8], at: usize) -> u64
-    requires { at + 8 ≤ length s.now }
-{
-    (four_bytes(s, at) as u64) * 4294967296 + four_bytes(s, at + 4) as u64
 }
 
 // The fewest ticks for one wanted saving.
@@ -240,19 +208,17 @@ fn print_fewest(rt: &impl Print, file: &[u8], wanted: u64) -> io::Result<()> {
     let answer = fewest_ticks(file, wanted);
     match answer {
         Err(refusal) => print_refusal(rt, refusal),
-        Ok(ticks) => print_u32(rt, ticks),
+        Ok(ticks) => print_number(rt, ticks),
     }
 }
 
 // The fewest ticks for each wanted saving, of eight bytes, on one line.
-fn print_ticks(rt: &impl Print, file: &[u8], wanted: &[u8]) -> io::Result<()>
-    requires { length wanted.now ≤ 8 * 8 }
-{
+fn print_ticks(rt: &impl Print, file: &[u8], wanted: &[u8]) -> io::Result<()> {
     print!(rt; "ticks")?;
-    for saving in wanted.chunks_exact(8) {
-        print_fewest(rt, file, eight_bytes(saving, 0))?;
+    for saving in wanted.as_chunks::<SAVING_BYTES>().0 {
+        print_fewest(rt, file, u64::from_be_bytes(*saving))?;
     }
-    end_line(rt)
+    println!(rt)
 }
 
 // The verdict on a list, on a line of its own.
@@ -263,22 +229,24 @@ fn print_judgement(rt: &impl Print, file: &[u8], list: &[u32]) -> io::Result<()>
         Err(refusal) => print_refused(rt, refusal)?,
         Ok(saving) => print_number(rt, saving)?,
     }
-    end_line(rt)
+    println!(rt)
 }
 
 // The verdict on the list with another increase at a gate. The list is as before afterwards.
-fn print_with(
+fn print_with<F: Fn(u32) -> u32>(
     rt: &impl Print,
     file: &[u8],
     gate: usize,
-    increase: u32,
     list: &mut [u32],
-) -> io::Result<()> {
-    if list.len() <= gate {
+    another: F,
+) -> io::Result<()>
+    requires { F.IsAlwaysCallable another }
+{
+    let Some(increase) = list.get_mut(gate) else {
         return Ok(());
-    }
-    let held = list[gate];
-    list[gate] = increase;
+    };
+    let held = *increase;
+    *increase = another(held);
     let answer = judge(file, list);
     list[gate] = held;
     match answer {
@@ -287,21 +255,13 @@ fn print_with(
     }
 }
 
-// The verdict on the list with one tick more at a gate.
-fn print_one_more(rt: &impl Print, file: &[u8], gate: usize, list: &mut [u32]) -> io::Result<()> {
-    if gate < list.len() {
-        print_with(rt, file, gate, list[gate].wrapping_add(1), list)?;
-    }
-    Ok(())
-}
-
 // The verdicts on the list with one tick more at each gate.
 fn print_more(rt: &impl Print, file: &[u8], gates: usize, list: &mut [u32]) -> io::Result<()> {
     print!(rt; "more")?;
     for g in 0..gates {
-        print_one_more(rt, file, g, list)?;
+        print_with(rt, file, g, list, |increase| increase.wrapping_add(1))?;
     }
-    end_line(rt)
+    println!(rt)
 }
 
 // The verdict on the list in hand; where the block has gates, also those on lists with one tick more at each gate, and with `beyond` and the largest number at one gate.
@@ -319,101 +279,69 @@ fn print_judgements(
     }
     print_more(rt, file, gates, list)?;
     print!(rt; "beyond")?;
-    print_with(rt, file, gate, beyond, list)?;
-    end_line(rt)?;
+    print_with(rt, file, gate, list, |_| beyond)?;
+    println!(rt)?;
     print!(rt; "largest")?;
-    print_with(rt, file, gate, 4294967295, list)?;
-    end_line(rt)
-}
-
-// The smaller of two numbers.
-fn smaller(a: usize, b: usize) -> usize
-    ensures { (result ≤ a) × (result ≤ b) }
-{
-    if a < b { a } else { b }
+    print_with(rt, file, gate, list, |_| u32::MAX)?;
+    println!(rt)
 }
 
 // The best increases, to an array of marks; the fewest ticks; and the judging of the increases and of lists that differ from them at one gate.
 fn run_list(
     rt: &impl Print,
-    file: &[u8],
+    head: Head,
     wanted: &[u8],
-    lent: usize,
+    file: &[u8],
     gates: usize,
-    gate: usize,
-    beyond: u32,
     list: &mut [u32],
 ) -> io::Result<()>
-    requires { (lent ≤ length list.old) × (length wanted.now ≤ 8 * 8) }
+    requires { head.lent ≤ length list.old }
 {
-    lend_best(rt, file, lent, list)?;
+    lend_best(rt, file, head.lent, list)?;
     print_ticks(rt, file, wanted)?;
-    print_judgements(rt, file, gates, gate, beyond, &mut list[..lent])
+    print_judgements(
+        rt,
+        file,
+        gates,
+        head.gate,
+        head.beyond,
+        &mut list[..head.lent],
+    )
 }
 
-// One record: a head of 13 bytes, the wanted savings, and a block file.
-fn run_case(rt: &impl Print, number: u64, head: &[u8], wanted: &[u8], file: &[u8]) -> io::Result<()>
-    requires { (length head.now ≡ 13) × (length wanted.now ≤ 8 * 8) }
-{
-    print!(rt; "case")?;
-    print_number(rt, number)?;
-    end_line(rt)?;
-    let lent = smaller(wide(head[2]) as usize, LENT);
-    let lent_widths = smaller(number_at(head, 3) as usize, LENT_PAIRS);
-    let lent_gains = smaller(number_at(head, 5) as usize, LENT_PAIRS);
-    let gate = wide(head[7]) as usize;
-    let beyond = four_bytes(head, 8);
-    let gates = run_slacks(rt, file, lent)?;
-    run_curve(rt, file, lent_widths, lent_gains)?;
-    let mut list = [MARK; LENT];
-    run_list(rt, file, wanted, lent, gates, gate, beyond, &mut list)
-}
-
-// Reads a record's block file into `file` and runs the record, or answers false where the input ends.
-fn run_file(
+// One record.
+fn run_case(
     rt: &impl Print,
-    input: &mut impl Read,
     number: u64,
-    head: &[u8],
+    head: Head,
     wanted: &[u8],
-    file: &mut [u8],
-) -> io::Result<bool>
-    requires { (length head.now ≡ 13) × (length wanted.now ≤ 8 * 8) }
-{
-    let size = smaller(number_at(head, 0) as usize, file.len());
-    if read_full(input, &mut file[..size])? < size {
-        return Ok(false);
-    }
-    run_case(rt, number, head, wanted, &file[..size])?;
-    Ok(true)
-}
-
-// Reads a record's wanted savings into `wanted`, which has room for eight, and runs the record, or answers false where the input ends.
-fn run_wanted(
-    rt: &impl Print,
-    input: &mut impl Read,
-    number: u64,
-    head: &[u8],
-    wanted: &mut [u8],
-) -> io::Result<bool>
-    requires { (length head.now ≡ 13) × (length wanted.old ≡ 8 * 8) }
-{
-    let size = smaller(wide(head[12]) as usize, 8) * 8;
-    if read_full(input, &mut wanted[..size])? < size {
-        return Ok(false);
-    }
-    let mut file = [0u8; MAX_BYTES];
-    run_file(rt, input, number, head, &wanted[..size], &mut file)
+    file: &[u8],
+) -> io::Result<()> {
+    println!(rt; "case {number}")?;
+    let gates = run_slacks(rt, file, head.lent)?;
+    run_curve(rt, file, head.lent_widths, head.lent_gains)?;
+    run_list(rt, head, wanted, file, gates, &mut [MARK; LENT])
 }
 
 // Reads a record and runs it, or answers false where the input ends.
 fn run_next(rt: &impl Print, input: &mut impl Read, number: u64) -> io::Result<bool> {
-    let mut head = [0u8; 13];
-    if read_full(input, &mut head)? < 13 {
+    let mut bytes = [0u8; HEAD_BYTES];
+    if read_full(input, &mut bytes)? < HEAD_BYTES {
         return Ok(false);
     }
-    let mut wanted = [0u8; WANTED_BYTES];
-    run_wanted(rt, input, number, &head, &mut wanted)
+    let head = Head::from(bytes);
+    let mut savings = [0u8; WANTED_BYTES];
+    let wanted = &mut savings[..head.savings * SAVING_BYTES];
+    if read_full(input, wanted)? < wanted.len() {
+        return Ok(false);
+    }
+    let mut room = [0u8; MAX_BYTES];
+    let file = &mut room[..head.file_bytes];
+    if read_full(input, file)? < file.len() {
+        return Ok(false);
+    }
+    run_case(rt, number, head, wanted, file)?;
+    Ok(true)
 }
 
 // At most a million records.

@@ -1,24 +1,20 @@
--- Laws of `placed` and `behind`: the two cases, the length, what stands before and behind, the text itself, and one text behind another; a text pasted byte by byte; digits do not fit exactly when the answer is the place itself.
+-- Laws of `placed` and `behind`: the two cases, the length, what stands before and behind, the text itself, and one text behind another; a text written to a part of the slice; digits do not fit exactly when the place behind them is the place itself.
 -- The idea: where the text fits, it is pasted whole.
 -- Assumes nothing.
-use mathlib.Core.Path.{◌≡◌, sym, ◌∙◌, ap}
+use mathlib.Core.Path.{◌≡◌, refl, sym, ◌∙◌, ap}
 use mathlib.Core.Logic.{◌↔◌, ⊎_elim}
 use mathlib.Core.List.{List, ◌++◌, append_assoc}
 use Prim.Native.Nat.{ℕ, ◌+◌, ◌<◌, ◌≤◌}
-use native.Mathlib.Numerals.{add-one}
 use native.Mathlib.Omega.{arith}
-use lib.ListN.{length, get_or, set, take, drop, length-append}
-use lib.Seq.{drop-drop, drop_at, take-length, length-take-le, slice, paste, paste-suc, length-paste, take-paste, drop-paste}
+use lib.ListN.{length, take, drop, length-append}
+use lib.Seq.{drop-drop, drop_at, take-length, length-take-le, slice, paste, length-paste, take-paste, drop-paste}
 use borrow.Author.Tests.{le-leb, lt-leb}
+use borrow.Rule.Slice.PartMut.{put_mid}
+use Rattle.std.proofs.lemmas.Slice.{put_mid-paste}
 use Rattle.lists.proofs.Compare.{le_or_lt}
 use Rattle.model.specs.Printout.{digits}
 use Rattle.decimal.specs.Placed.{placed, behind}
 use Rattle.decimal.proofs.Digits.{some_digit}
-
--- the bytes of a text before byte i pasted, and then byte i written
-pub paste_byte : (old : List ℕ) (at : ℕ) (text : List ℕ) (i : ℕ) {b : ℕ} → b ≡ get_or text i 0 → at + i < length old → i < length text
-    → set (paste old at text i) (at + i) b ≡ paste old at text (i + 1)
-paste_byte old at text i e h l = rw (e, add-one i) (paste-suc old at text i 0 h l)
 
 module _ (text : List ℕ) (at : ℕ) (old : List ℕ) where
   pub placed_fits : at + length text ≤ length old → placed text at old ≡ take at old ++ text ++ drop (at + length text) old
@@ -41,13 +37,9 @@ module _ (text : List ℕ) (at : ℕ) (old : List ℕ) where
   pub placed_paste : at + length text ≤ length old → placed text at old ≡ paste old at text (length text)
   placed_paste h = placed_fits h ∙ ap (λ (t : List ℕ). take at old ++ t ++ drop (at + length text) old) (sym (take-length text))
 
-  -- what a call promises, where the text fits and where not
-  pub written : at + length text ≤ length old
-      → (at + length text ≡ behind text at old) × (paste old at text (length text) ≡ placed text at old)
-  written h = (sym (behind_fits h), sym (placed_paste h))
-
-  pub not_written : length old < at + length text → (at ≡ behind text at old) × (old ≡ placed text at old)
-  not_written h = (sym (behind_not h), sym (placed_not h))
+  -- the slice after a write of the whole text to the part of it from `at` on
+  pub placed_part : at + length text ≤ length old → (k : ℕ) (part : List ℕ) → k ≡ length text → part ≡ text → put_mid at k old part ≡ placed text at old
+  placed_part h k part e s = put_mid-paste at k old part text (length text) s (sym e) refl ∙ sym (placed_paste h)
 
   pub length_placed : length (placed text at old) ≡ length old
   length_placed =
@@ -89,7 +81,7 @@ placed_behind a b at old h =
     )
     (sym (placed_fits (a ++ b) at old h))
 
--- the answer is the place itself exactly when the digits do not fit there
+-- the place behind the digits is the place itself exactly when they do not fit there
 pub answer_says : (n at : ℕ) (old : List ℕ) → (behind (digits n) at old ≡ at) ↔ (length old < at + length (digits n))
 answer_says n at old = (
   (λ (e : behind (digits n) at old ≡ at).

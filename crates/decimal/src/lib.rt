@@ -1,7 +1,7 @@
-// The decimal digits of a 64-bit number. The powers of ten are found by multiplication, each ten times the one before, as far as the number needs.
+// The decimal digits of a 64-bit number. The powers of ten are found by multiplication, each ten times the one before, as far as the number needs: not by `ilog10` and `pow`, nor left to the kit's `itoa`, since this formula is what was asked (docs/DECISIONS.md, "Powers of ten by multiplication").
 #![tactic(auto)]
 
-ghost use Rattle.std.specs.Prelude.{◌≡◌, ◌-◌, ◌^◌, length};
+ghost use Rattle.std.specs.Prelude.{◌≡◌, ◌+◌, ◌-◌, ◌^◌, ◌<◌, length, MatchOption};
 ghost use Rattle.model.specs.Printout.{digits};
 ghost use Rattle.decimal.specs.Placed.{placed, behind};
 
@@ -13,6 +13,7 @@ struct LeadingDigit {
 }
 
 // The leading digit of n. While the loop goes on, the next power is at most n, so that it fits 64 bits.
+#[tactic(auto, using(crate::proofs::Digits::some_digit, crate::proofs::Digits::more_than, crate::proofs::Digits::at_most_twenty))]
 fn leading_digit_of(n: u64) -> LeadingDigit
     ensures { (result.count ≡ length (digits n)) × (result.power ≡ 10 ^ (result.count - 1)) }
 {
@@ -33,24 +34,21 @@ pub fn digit_count(n: u64) -> usize
     leading_digit_of(n).count
 }
 
-// Writes the digits of n at place `at` of the slice and answers the place behind them; where they do not fit there, writes nothing and answers `at`.
-pub fn write_digits(n: u64, out: &mut [u8], at: usize) -> usize
-    ensures { (result ≡ behind (digits n) at out.old) × (out.new ≡ placed (digits n) at out.old) }
+// Writes the digits of n at place `at` of the slice and answers the place behind them; where they do not fit there, writes nothing and answers None.
+#[tactic(auto, using(crate::proofs::Digits::some_digit, crate::proofs::Placed::behind_fits, crate::proofs::Placed::placed_not))]
+pub fn write_digits(n: u64, out: &mut [u8], at: usize) -> Option<usize>
+    ensures answer { MatchOption result (length out.old < at + length (digits n)) (λ next. (at < next) × (next ≡ behind (digits n) at out.old)) }
+    ensures written { out.new ≡ placed (digits n) at out.old }
 {
     let leading = leading_digit_of(n);
-    let count = leading.count;
-    if out.len() < at {
-        return at;
+    if out.len().saturating_sub(at) < leading.count {
+        return None;
     }
-    if out.len() - at < count {
-        return at;
-    }
+    let end = at + leading.count;
     let mut power = leading.power;
-    let mut i = 0;
-    while i < count {
-        out[at + i] = b'0' + (n / power % 10) as u8;
+    for place in &mut out[at..end] {
+        *place = b'0' + (n / power % 10) as u8;
         power /= 10;
-        i += 1;
     }
-    at + count
+    Some(end)
 }

@@ -6,6 +6,7 @@ use printing::{PRINTOUT_BYTES, printout};
 use reading::read_full;
 use std::io;
 
+#[tactic(auto, using(printing::proofs::Outcome::answer_within))]
 fn main(rt: HostRuntime) -> io::Result<()> {
     let mut file = [0u8; MAX_BYTES];
     let n = read_full(&mut rt.stdin(), &mut file)?;

@@ -1,4 +1,4 @@
--- Laws of `Written`: what a writing call promises where there is room, no text, a text behind another, a byte behind a text, and a text at the front.
+-- Laws of `Written`: what a writing call promises where there is room, a copied text, no text, a text behind another, a byte behind a text, and a text at the front.
 -- The idea: a text behind another is the two in one (`placed_behind`).
 -- Assumes nothing.
 use mathlib.Core.Path.{◌≡◌, refl, sym, ◌∙◌, ap, subst}
@@ -9,10 +9,11 @@ use native.Mathlib.Nat.{zero-add, add-zero}
 use native.Mathlib.Omega.{arith}
 use lib.ListN.{length, take, drop, set, length-append, take-append-drop}
 use lib.Seq.{append_snoc, set_split}
+use borrow.Rule.Slice.PartMut.{put_mid}
 use Rattle.lists.specs.Over.{over}
 use Rattle.decimal.specs.Placed as at_place
 use Rattle.decimal.specs.Placed.{placed}
-use Rattle.decimal.proofs.Placed.{placed_fits, behind_fits, length_placed, placed_behind}
+use Rattle.decimal.proofs.Placed.{placed_fits, placed_part, behind_fits, length_placed, placed_behind}
 use Rattle.text.specs.Written.{Written}
 
 -- where there is room, a call that promises `placed` and `behind` writes
@@ -20,6 +21,11 @@ pub with_room : {text : List ℕ} {at : ℕ} {old new : List ℕ} {next : ℕ} �
     → next ≡ at_place.behind text at old → new ≡ placed text at old
     → Written text at old new next
 with_room {text} {at} {old} h p e = record { fits = h; behind = p ∙ behind_fits text at old h; stands = e }
+
+-- a text copied to the part of the slice that is as long
+pub copied : (text : List ℕ) (at : ℕ) (old : List ℕ) (k : ℕ) (part : List ℕ) → at + length text ≤ length old → k ≡ length text → part ≡ text
+    → Written text at old (put_mid at k old part) (at + length text)
+copied text at old k part h e s = record { fits = h; behind = refl; stands = placed_part text at old h k part e s }
 
 pub same_length : {text : List ℕ} {at : ℕ} {old new : List ℕ} {next : ℕ} → Written text at old new next → length new ≡ length old
 same_length {text} {at} {old} w = ap length w.stands ∙ length_placed text at old

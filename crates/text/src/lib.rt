@@ -2,5 +2,4 @@
 #![tactic(auto)]
 
 pub mod lines;
-mod number;
 mod pieces;

@@ -3,9 +3,8 @@ ghost use Rattle.std.specs.Prelude.{◌++◌, ◌+◌, ◌*◌, ◌≤◌, pos, 
 ghost use Rattle.model.specs.Limits.{max_gates};
 ghost use Rattle.model.specs.Printout.{refusal_line, head_text, gate_text, gate_texts};
 ghost use Rattle.text.specs.Written.{Written, refusal_room, head_room, gate_room, block_room};
-ghost use Rattle.text.specs.Numbers.{Listed, listed_line};
+ghost use Rattle.text.specs.Numbers.{Natural, Listed, listed_line};
 
-use crate::number::{natural, wide};
 use crate::pieces::{NAMED_ROOM, NUMBER_ROOM, write_named, write_number};
 
 // Bytes of the head, at most (specs/Written.antt): five words, each with a number.
@@ -40,20 +39,20 @@ fn write_head(head: Head, out: &mut [u8]) -> usize
 {
     let mut next = write_named(b"gates ", head.gates as u64, b' ', out, 0);
     next = write_named(b"wires ", head.wires as u64, b'\n', out, next);
-    next = write_named(b"start ", head.start as u64, b' ', out, next);
-    next = write_named(b"spare ", head.spare as u64, b'\n', out, next);
+    next = write_named(b"start ", u64::from(head.start), b' ', out, next);
+    next = write_named(b"spare ", u64::from(head.spare), b'\n', out, next);
     write_named(b"saving ", head.saving, b'\n', out, next)
 }
 
-// Writes the line of gate g at place `at` and answers the place behind it.
-fn write_gate(g: u64, delay: u64, increase: u64, slack: u64, out: &mut [u8], at: usize) -> usize
-    requires { at + gate_room ≤ length out.old }
-    ensures { (result ≤ at + gate_room) × Written (gate_text g delay increase (pos slack)) at out.old out.new result }
+// Writes the line of gate g, whose slack needs no sign, at place `at` and answers the place behind it.
+fn write_gate(g: usize, delay: u32, increase: u32, slack: i32, out: &mut [u8], at: usize) -> usize
+    requires { (at + gate_room ≤ length out.old) × Natural slack }
+    ensures { (result ≤ at + gate_room) × Written (gate_text g delay increase slack) at out.old out.new result }
 {
-    let mut next = write_number(g, b' ', out, at);
-    next = write_number(delay, b' ', out, next);
-    next = write_number(increase, b' ', out, next);
-    write_number(slack, b'\n', out, next)
+    let mut next = write_number(g as u64, b' ', out, at);
+    next = write_number(u64::from(delay), b' ', out, next);
+    next = write_number(u64::from(increase), b' ', out, next);
+    write_number(u64::from(slack.unsigned_abs()), b'\n', out, next)
 }
 
 // Writes the lines of the first n gates at place `at` and answers the place behind them.
@@ -69,17 +68,9 @@ fn write_gates(
     ensures { (result ≤ at + gate_room * n) × Written (gate_texts (listed_line delays.now increases.now slacks.now) n) at out.old out.new result }
 {
     let mut next = at;
-    let mut g = 0;
-    while g < n {
-        next = write_gate(
-            g as u64,
-            wide(delays[g]),
-            wide(increases[g]),
-            natural(slacks[g]),
-            out,
-            next,
-        );
-        g += 1;
+    // Indexes, not three zipped iterators: the gate's number is printed too, and the lists may be longer.
+    for g in 0..n {
+        next = write_gate(g, delays[g], increases[g], slacks[g], out, next);
     }
     next
 }

@@ -1,15 +1,11 @@
--- `decimal::write_digits` meets its contract. The loop's invariant: the first i digits are pasted over what stood from `at` on, and, where there is another, `power` is the power that it counts. Where the digits do not fit, it answers before the loop.
--- Assumes nothing.
-use mathlib.Core.Path.{◌≡◌}
-use Prim.Native.Nat.{◌-◌, ◌^◌, ◌<◌, ◌≤◌}
-use lib.ListN.{length}
-use lib.Seq.{paste}
+-- The first digits stand in the part that is written, and, where there is another, `power` is the power that it counts.
+use Rattle.std.proofs.Common.{◌≡◌, ◌-◌, ◌^◌, ◌<◌, length, ℕ, get_or}
 use Rattle.model.specs.Printout.{digits}
 use Rattle.decimal.proofs.write_digits.Given as goal
 
-abbrev pub invariant-loop-i : goal.invariant-loop-i
-invariant-loop-i l =
-    (l.i ≤ l.count) × (length l.out ≡ length l.initial.out) × (l.out ≡ paste l.initial.out l.at (digits l.n) l.i) × (l.i < l.count → l.power ≡ 10 ^ (l.count - 1 - l.i))
-
-abbrev pub decreases-loop-i : goal.decreases-loop-i
-decreases-loop-i l = l.count - l.i
+abbrev pub invariant-loop-place : goal.invariant-loop-place
+invariant-loop-place l =
+    record {
+      stands : (k : ℕ) → k < l.place-index → get_or l.place-items k 0 ≡ get_or (digits l.n) k 0;
+      counts : l.place-index < length (digits l.n) → l.power ≡ 10 ^ (length (digits l.n) - 1 - l.place-index);
+    }
