@@ -1,4 +1,5 @@
--- The end: what the answer says of the block (`root_answered`, `unfit_answered`, `lowest_answered`). Assumes nothing.
+-- The end: what the answer says of the block (`root_found`, `none_found`). Assumes nothing.
+use Rattle.std.specs.Prelude.{Option, Some, None, Result, Ok, Err, IsErrAnd}
 use mathlib.Core.Path.{◌≡◌, refl, sym, ◌∙◌, ap, subst, subst₂}
 use mathlib.Core.Logic.{inl, inr, ◌↔◌, ⊎_elim}
 use mathlib.Core.List.{List}
@@ -9,6 +10,7 @@ use Rattle.lists.specs.Search.{Lowest}
 use Rattle.model.specs.Block.{Block, gate_count, first, last}
 use Rattle.model.specs.Part.{Whole, SeriesParallel, built}
 use Rattle.model.specs.Remainder.{Remains}
+use Rattle.model.specs.Answer.{NotSeriesParallelAt}
 use Rattle.parts.specs.Reduction.{Only}
 use Rattle.parts.specs.Slots.{Live, Finished}
 use Rattle.parts.specs.Network.{Network}
@@ -16,37 +18,17 @@ use Rattle.parts.specs.Nodes.{Nodes, Weighed, tree_of}
 use Rattle.parts.specs.Rooted.{Rooted}
 use Rattle.parts.proofs.Verdict.{only_first, only_last, whole, verdict, lone_gate}
 use Rattle.parts.proofs.Remains as Remaining
-use Rattle.slots.specs.Sought.{OnlyLive, LowestLed}
+use Rattle.slots.specs.Sought.{OnlyLive, OnlyLiveAt, LowestLed}
 use Rattle.slots.specs.Picked.{Picked}
-use Rattle.slots.specs.declared.Answer.{Answer}
-use Rattle.slots.specs.declared.Answer.TheVariants.{Root, Lone, Unfit}
-use Rattle.reduction.specs.Arrays.{Arrays, arrays, held, Room}
+use Rattle.slots.specs.declared.NotSeriesParallel.{NotSeriesParallel}
+use Rattle.slots.specs.declared.nodes.TreeNodes.{TreeNodes}
+use Rattle.reduction.specs.declared.RootedTree.{RootedTree}
+use Rattle.reduction.specs.Arrays.{Arrays, held}
+use Rattle.reduction.specs.State.{nodes_in}
 use Rattle.reduction.specs.Going.{Going, Ended}
 use Rattle.reduction.specs.Answered.{Answered}
 use Rattle.reduction.specs.Wired.{Wired}
 use Rattle.reduction.proofs.Held.{held_in, held_live, held_alive, held_ends}
-
--- room stays when lengths stay
-pub room_kept :
-    {k x : ℕ} {live from target top kind left gate right live' target' top' kind' gate' : List ℕ}
-    → Room k x (arrays live from target top kind left gate right)
-    → length live' ≡ length live
-    → length target' ≡ length target
-    → length top' ≡ length top
-    → length kind' ≡ length kind
-    → length gate' ≡ length gate
-    → Room k x (arrays live' from target' top' kind' left gate' right)
-room_kept {k} {x} r a b c d e =
-    record {
-      live_room = subst (λ z. k ≤ z) (sym a) r.live_room;
-      from_room = r.from_room;
-      to_room = subst (λ z. k ≤ z) (sym b) r.to_room;
-      top_room = subst (λ z. k ≤ z) (sym c) r.top_room;
-      kind_room = subst (λ z. x ≤ z) (sym d) r.kind_room;
-      left_room = r.left_room;
-      gate_room = subst (λ z. x ≤ z) (sym e) r.gate_room;
-      right_room = r.right_room;
-    }
 
 -- The answer.
 module _ {N : Block} {n k c : ℕ} {A B : Arrays} (net : Network N) (begin : Going N n k k A) (end : Ended n k 0 (n - 1) A B c) where
@@ -56,12 +38,12 @@ module _ {N : Block} {n k c : ℕ} {A B : Arrays} (net : Network N) (begin : Goi
   finished : Finished (held k B) (first N) (last N)
   finished = subst (λ z. Finished (held k B) 0 (z - 1)) (sym begin.gates) (end.stands N net begin).1
 
-  module _ {i : ℕ} (ol : OnlyLive B.lives k i) where
-    pub root_answered : (i ≡ k → ⊥) → Rooted N B.tree (get_or B.tops i 0) c
-    root_answered d =
+  module _ {i : ℕ} (ol : OnlyLiveAt B.lives k i) where
+    pub root_answered : Rooted N B.tree (get_or B.tops i 0) c
+    root_answered =
         record {
           whole = subst (Whole N) (ap (λ s. s.shape) (held_in k B i inside)) (whole net going.reducing one);
-          weighed = subst₂ (λ x y. Weighed N.wires x y (tree_of B.tree (get_or B.tops i 0))) (sym ends.0 ∙ only_first net going.reducing one) (sym ends.1 ∙ only_last net going.reducing one) (going.formed.weighed i inside (ol.live inside));
+          weighed = subst₂ (λ x y. Weighed N.wires x y (tree_of B.tree (get_or B.tops i 0))) (sym ends.0 ∙ only_first net going.reducing one) (sym ends.1 ∙ only_last net going.reducing one) (going.formed.weighed i inside ol.live);
           below = going.formed.tops_below i inside;
           children = going.formed.children;
           kinds_long = omega (arith, few, end.ready.room.kind_room);
@@ -74,19 +56,19 @@ module _ {N : Block} {n k c : ℕ} {A B : Arrays} (net : Network N) (begin : Goi
         few = omega (arith, end.ready.budget)
 
         inside : i < k
-        inside = let w = ol.within in omega arith
+        inside = ol.within
 
         ends : ((held k B i).source ≡ get_or B.froms i 0) × ((held k B i).target ≡ get_or B.tos i 0)
         ends = held_ends k B i inside
 
         one : Only (λ q. Live (held k B q))
-        one = record { value = i; holds = held_alive k B i inside (ol.live inside); alone = λ q l. let (h, v) = held_live k B q l in ol.only inside q h v }
+        one = record { value = i; holds = held_alive k B i inside ol.live; alone = λ q l. let (h, v) = held_live k B q l in ol.only q h v }
 
-    pub unfit_answered : (n ≡ 1 → ⊥) → i ≡ k → ¬ (SeriesParallel N)
-    unfit_answered d e p =
-        let o = (verdict net going.reducing (λ z. d (sym begin.gates ∙ z)) finished).1 p in
-        let (h, v) = held_live k B o.value o.holds in
-        ol.not_one e o.value h v (λ q l w. o.alone q (held_alive k B q l w))
+  pub unfit_answered : OnlyLive B.lives k None → (n ≡ 1 → ⊥) → ¬ (SeriesParallel N)
+  unfit_answered none d p =
+      let o = (verdict net going.reducing (λ z. d (sym begin.gates ∙ z)) finished).1 p in
+      let (h, v) = held_live k B o.value o.holds in
+      none o.value h v (λ q l w. o.alone q (held_alive k B q l w))
 
   -- the lowest gate to which a slot leads, by the slots that the arrays hold
   held_led : {g : ℕ} → LowestLed B.lives B.tos k (n - 1) g → Remaining.LowestLed k (held k B) (last N) g
@@ -104,27 +86,39 @@ module _ {N : Block} {n k c : ℕ} {A B : Arrays} (net : Network N) (begin : Goi
 pub lone_answered : {N : Block} {n k : ℕ} {froms tos delays : List ℕ} → Network N → Wired N n k froms tos delays → n ≡ 1 → (gate_count N ≡ 1) × SeriesParallel N
 lone_answered net w e = (w.gates ∙ e, lone_gate net (w.gates ∙ e))
 
-pub picked_answered :
-    {N : Block} {n k c : ℕ} {A B : Arrays}
+-- where the tree's nodes are those of the arrays B
+pub root_found :
+    {N : Block} {n k t : ℕ} {A B : Arrays} {T : TreeNodes}
+    → Network N
+    → Going N n k k A
+    → Ended n k 0 (n - 1) A B T.count
+    → nodes_in T ≡ B.tree
+    → Picked B.lives B.tos B.tops k (n - 1) (Ok t)
+    → Rooted N (nodes_in T) t T.count
+root_found {N} {T = T} net go e s (i, ol, f) = subst₂ (λ M x. Rooted N M x T.count) (sym s) (sym f) (root_answered net go e ol)
+
+pub none_found :
+    {N : Block} {n k c : ℕ} {A B : Arrays} {g : NotSeriesParallel}
     → Network N
     → Going N n k k A
     → Ended n k 0 (n - 1) A B c
     → (n ≡ 1 → ⊥)
-    → (r : Answer)
-    → Picked B.lives B.tos B.tops k c (n - 1) r
-    → Answered N B.tree r
-picked_answered {N} {B = B} net go e d (Root t m) (i, ne, ol, f, g) = subst₂ (Rooted N B.tree) (sym f) (sym g) (root_answered net go e ol ne)
-picked_answered net go e d Lone p = absurd p
-picked_answered net go e d (Unfit g) (ol, low) = let unfit = unfit_answered net go e ol d refl in (unfit, lowest_answered net go e unfit low)
+    → Picked B.lives B.tos B.tops k (n - 1) (Err g)
+    → NotSeriesParallelAt N g.gate
+none_found net go e d (none, low) = let unfit = unfit_answered net go e none d in (unfit, lowest_answered net go e unfit low)
+
+-- the same where the error is passed on
+pub error_answered : {N : Block} {e : NotSeriesParallel} (r : Result (Option RootedTree) NotSeriesParallel) → IsErrAnd r (λ x. x ≡ e) → NotSeriesParallelAt N e.gate → Answered N r
+error_answered (Ok t) is a = absurd is
+error_answered {N} (Err x) is a = subst (λ y. NotSeriesParallelAt N y.gate) (sym is) a
 
 -- accepted: any answer but "not series-parallel"
-abbrev pub Accepted : Answer → Type 0
-Accepted (Root t c) = Unit {0}
-Accepted Lone = Unit {0}
-Accepted (Unfit g) = ⊥
+abbrev pub Accepted : Result (Option RootedTree) NotSeriesParallel → Type 0
+Accepted (Ok t) = Unit {0}
+Accepted (Err e) = ⊥
 
 -- Soundness and completeness of an answer in one: accepted exactly when series-parallel.
-pub accepted_iff : (B : Block) (T : Nodes) (r : Answer) → Answered B T r → Accepted r ↔ SeriesParallel B
-accepted_iff B T (Root t c) a = (λ u. built _ a.whole, λ p. tt)
-accepted_iff B T Lone a = (λ u. a.1, λ p. tt)
-accepted_iff B T (Unfit g) a = (absurd, a.0)
+pub accepted_iff : (B : Block) (r : Result (Option RootedTree) NotSeriesParallel) → Answered B r → Accepted r ↔ SeriesParallel B
+accepted_iff B (Ok (Some t)) a = (λ u. built _ a.whole, λ p. tt)
+accepted_iff B (Ok None) a = (λ u. a.1, λ p. tt)
+accepted_iff B (Err e) a = (absurd, a.0)

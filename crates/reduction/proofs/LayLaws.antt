@@ -1,8 +1,8 @@
--- The beginning: wires laid out one after another (`laid_more`), and what the arrays then hold (`laid_going`, `laid_ready`). Assumes nothing.
-use mathlib.Core.Path.{◌≡◌, sym, ◌∙◌, ap, subst, subst₂, fun_ext}
+-- The beginning: what the arrays hold once the wires are laid out (`laid_going`, `laid_ready`, `laid_moment`). Assumes nothing.
+use mathlib.Core.Path.{◌≡◌, refl, sym, ◌∙◌, ap, subst, subst₂, fun_ext}
 use mathlib.Core.Logic.{inl}
 use mathlib.Core.List.{List, Memᴰ}
-use Prim.Native.Nat.{ℕ, ◌+◌, ◌<◌}
+use Prim.Native.Nat.{ℕ, ◌+◌, ◌-◌, ◌<◌}
 use native.Mathlib.Decide.{ℕ_discrete, dec_lt}
 use native.Mathlib.Omega.{arith}
 use lib.ListN.{length, get_or, set}
@@ -15,52 +15,17 @@ use Rattle.parts.specs.Nodes.{leaf, shape_of, Weighed, tree_of}
 use Rattle.parts.proofs.Nodes.{tree_wire}
 use Rattle.parts.proofs.Start.{initial_at, initial_beyond, stands_at, start}
 use Rattle.tallies.proofs.TallyLaws.{end_gates_few}
+use Rattle.model.specs.Limits.{max_gates}
+use Rattle.tallies.specs.Tallies.{TalliedBy}
+use Rattle.tallies.specs.Queue.{LinedUp}
+use Rattle.slots.specs.declared.wires.Wires.{Wires}
+use Rattle.reduction.specs.declared.Reduction.{Reduction}
 use Rattle.reduction.specs.Arrays.{Arrays, held, Room}
-use Rattle.reduction.specs.Going.{Going, Ready}
-use Rattle.reduction.specs.Wired.{Wired, LaidAt, Laid}
+use Rattle.reduction.specs.Going.{Going, Ready, Queued}
+use Rattle.reduction.specs.State.{state, Moment}
+use Rattle.reduction.specs.Wired.{Wired, Given, Laid}
 use Rattle.reduction.proofs.Held.{held_out, held_slot}
-
--- One slot more laid out.
-module _ (tos delays lives targets tops kinds gates : List ℕ) (i : ℕ) (done : Laid i tos delays lives targets tops kinds gates) where
-  pub laid_more :
-      {lives' targets' tops' kinds' gates' : List ℕ}
-      → i < length lives
-      → i < length targets
-      → i < length tops
-      → i < length kinds
-      → i < length gates
-      → lives' ≡ set lives i 1
-      → targets' ≡ set targets i (get_or tos i 0)
-      → tops' ≡ set tops i i
-      → kinds' ≡ set kinds i 0
-      → gates' ≡ set gates i (get_or delays i 0)
-      → Laid (i + 1) tos delays lives' targets' tops' kinds' gates'
-  laid_more {lives'} {targets'} {tops'} {kinds'} {gates'} hl ht hp hk hg el et ep ek eg q h = go (ℕ_discrete q i)
-    where
-      at : (xs xs' : List ℕ) (v : ℕ) → i < length xs → xs' ≡ set xs i v → q ≡ i → get_or xs' q 0 ≡ v
-      at xs xs' v b e f = ap (λ ys. get_or ys q 0) e ∙ ap (λ z. get_or (set xs i v) z 0) f ∙ get_or-set_same xs i v 0 b
-
-      off : (xs xs' : List ℕ) (v : ℕ) → xs' ≡ set xs i v → (q ≡ i → ⊥) → get_or xs' q 0 ≡ get_or xs q 0
-      off xs xs' v e n = ap (λ ys. get_or ys q 0) e ∙ get_or-set_other xs i q v 0 n
-
-      go : Dec (q ≡ i) → LaidAt tos delays lives' targets' tops' kinds' gates' q
-      go (yes f) =
-          record {
-            live = at lives lives' 1 hl el f;
-            target = at targets targets' (get_or tos i 0) ht et f ∙ ap (λ z. get_or tos z 0) (sym f);
-            top = at tops tops' i hp ep f ∙ sym f;
-            kind = at kinds kinds' 0 hk ek f;
-            delay = at gates gates' (get_or delays i 0) hg eg f ∙ ap (λ z. get_or delays z 0) (sym f);
-          }
-      go (no n) =
-          let d = done q (omega arith) in
-          record {
-            live = off lives lives' 1 el n ∙ d.live;
-            target = off targets targets' (get_or tos i 0) et n ∙ d.target;
-            top = off tops tops' i ep n ∙ d.top;
-            kind = off kinds kinds' 0 ek n ∙ d.kind;
-            delay = off gates gates' (get_or delays i 0) eg n ∙ d.delay;
-          }
+use Rattle.reduction.proofs.QueueLaws.{queued_start}
 
 -- The wires in the arrays join gates of the block.
 module _ {N : Block} {n k : ℕ} {froms tos delays : List ℕ} (net : Network N) (w : Wired N n k froms tos delays) where
@@ -72,6 +37,9 @@ module _ {N : Block} {n k : ℕ} {froms tos delays : List ℕ} (net : Network N)
 
   pub source_below : (i : ℕ) → i < k → get_or froms i 0 < n
   source_below i h = subst₂ ◌<◌ (sym (w.source i h)) w.gates (wire_below i h).0
+
+  pub target_below : (i : ℕ) → i < k → get_or tos i 0 < n
+  target_below i h = subst₂ ◌<◌ (sym (w.target i h)) w.gates (wire_below i h).1
 
 -- The wires laid out, with room for the nodes to come.
 module _ {N : Block} {n k : ℕ} {froms tos delays : List ℕ} (net : Network N) (w : Wired N n k froms tos delays) (A : Arrays) (same : A.froms ≡ froms) (d : Laid k tos delays A.lives A.tos A.tops A.tree.kinds A.tree.gates) where
@@ -116,3 +84,32 @@ module _ {N : Block} {n k : ℕ} {froms tos delays : List ℕ} (net : Network N)
         to_below = λ i h. subst₂ ◌<◌ (sym (to_at i h)) w.gates (wire_below net w i h).1;
         budget = omega (arith, end_gates_few A.lives A.froms k n);
       }
+
+-- The beginning is a moment between two turns.
+pub laid_moment :
+    {w : Wires} {R : Reduction} {targets delays : List ℕ}
+    → Given w.gates w.count w.sources.now targets delays
+    → Laid w.count targets delays R.slots.live R.slots.to R.slots.top R.nodes.kind R.nodes.gate
+    → Room w.count (w.count + (w.gates + w.gates)) (state w R)
+    → R.nodes.count ≡ w.count
+    → TalliedBy R.slots.live R.slots.to max_gates w.count R.tallies.ins
+    → TalliedBy R.slots.live w.sources.now max_gates w.count R.tallies.outs
+    → LinedUp w.gates R.queue.gates R.queue.places
+    → (R.queue.head ≡ 0) × (R.queue.tail ≡ w.gates)
+    → Moment w R
+laid_moment {w} {R} given laid room count ins outs line (head, tail) =
+    record {
+      sound =
+          record {
+            block = given.block;
+            network = given.network;
+            going = subst (λ z. Going given.block w.gates w.count z (state w R)) (sym count) (laid_going given.network given.wired (state w R) refl laid);
+          };
+      ready = subst (λ z. Ready w.gates w.count z (state w R)) (sym count) ready;
+      tallied = record { ins_right = λ g h. ins g (omega (arith, w.few_gates)); outs_right = λ g h. outs g (omega (arith, w.few_gates)) };
+      queued = subst₂ (Queued w.gates 0 (w.gates - 1) R.tallies.ins R.tallies.outs R.queue.gates R.queue.places) (sym head) (sym tail) (queued_start line);
+      room = omega (arith, ready.budget, tail);
+    }
+  where
+    ready : Ready w.gates w.count w.count (state w R)
+    ready = laid_ready given.network given.wired (state w R) refl laid room

@@ -1,4 +1,5 @@
 pub mod Arrays
 pub mod Going
+pub mod State
 pub mod Wired
 pub mod Answered

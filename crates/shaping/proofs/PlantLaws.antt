@@ -1,6 +1,7 @@
 -- The tree of a block planted: the block's wires may be reduced (`reducible`), the tree that the reduction finds may be planted (`root_asked`), and what is planted is the block's tree (`lone_planted`, `root_planted`).
 -- Assumes nothing.
-use mathlib.Core.Path.{◌≡◌, refl, sym, ◌∙◌, ap}
+use Rattle.std.specs.Prelude.{Result, Ok, Err, IsErrAnd}
+use mathlib.Core.Path.{◌≡◌, refl, sym, ◌∙◌, ap, subst}
 use mathlib.Core.List.{List}
 use Prim.Native.Nat.{ℕ, ◌-◌, ◌≤◌}
 use native.Mathlib.Omega.{arith}
@@ -9,6 +10,7 @@ use Rattle.model.specs.Limits.{max_gates, max_wires}
 use Rattle.model.specs.Block.{Block, gate_count, first, last}
 use Rattle.model.specs.Part.{SeriesParallel, built}
 use Rattle.model.specs.Part as Part
+use Rattle.model.specs.Answer.{NotSeriesParallelAt}
 use Rattle.parts.specs.Nodes.{Nodes, tree_of}
 use Rattle.parts.specs.Network.{Network}
 use Rattle.parts.specs.Rooted.{Rooted}
@@ -23,7 +25,7 @@ use Rattle.planting.proofs.Agreeing.{rooted_readable}
 use Rattle.planting.proofs.Writing.{there_is_room}
 use Rattle.planting.proofs.Wires.{few_nodes}
 use Rattle.planting.proofs.Trees.{whole_converted}
-use Rattle.shaping.specs.declared.plant.TreeAnswer.TheVariants.{Planted}
+use Rattle.slots.specs.declared.NotSeriesParallel.{NotSeriesParallel}
 use Rattle.shaping.specs.PlantedBlock.{Given, PlantedOrNot}
 use Rattle.shaping.proofs.Facts.{join, network, no_wire_twice}
 
@@ -35,6 +37,11 @@ few_room tree long c h = there_is_room (record { long = long; within = h })
 pub lone_case : {B : Block} → gate_count B ≡ 1 → (fits : SeriesParallel B) → block_tree B fits ≡ lone_tree B
 lone_case single (Part.lone e none) = refl
 lone_case {B} single (built P w) = absurd ((part_ends P (first B) (last B) w.part).differ (omega arith))
+
+-- Where the block is not series-parallel, the error is passed on.
+pub none_planted : {B : Block} {e : NotSeriesParallel} (r : Result ℕ NotSeriesParallel) (words : List ℕ) → IsErrAnd r (λ x. x ≡ e) → NotSeriesParallelAt B e.gate → PlantedOrNot B r words words
+none_planted (Ok c) words is a = absurd is
+none_planted {B} (Err x) words is a = (subst (λ y. NotSeriesParallelAt B y.gate) (sym is) a, refl)
 
 module _ {B : Block} {n m : ℕ} {sources targets wire_delays : List ℕ} (given : Given B n m sources targets wire_delays) where
   pub given_network : Network B
@@ -61,7 +68,7 @@ module _ {B : Block} {n m : ℕ} {sources targets wire_delays : List ℕ} (given
       (rooted_readable r full, few_room tree long (nodes_of (whole a (tree_of T t) b)) (root_few r a b))
 
   -- What is planted is the block's tree.
-  pub lone_planted : (before words : List ℕ) {c : ℕ} → (gate_count B ≡ 1) × SeriesParallel B → c ≡ 3 → Planting.Planted (lone 0) c (plot_of words) → plot_of words ≡ planted_in (lone 0) (plot_of before) → nodes_held words ≡ c → PlantedOrNot B (Planted c) before words
+  pub lone_planted : (before words : List ℕ) {c : ℕ} → (gate_count B ≡ 1) × SeriesParallel B → c ≡ 3 → Planting.Planted (lone 0) c (plot_of words) → plot_of words ≡ planted_in (lone 0) (plot_of before) → nodes_held words ≡ c → PlantedOrNot B (Ok c) before words
   lone_planted before words (single, fits) count planted written held =
       record { fits = fits; tree = lone 0; is_tree = sym (lone_case single fits); planted = planted; written = written; held = held; some = omega arith; few = omega arith }
 
@@ -70,7 +77,7 @@ module _ {B : Block} {n m : ℕ} {sources targets wire_delays : List ℕ} (given
       ap (λ b. as_tree (whole 0 (tree_of T t) (b - 1))) (sym given.wired.gates)
       ∙ whole_converted B (no_wire_twice B given.limits given.sound) (tree_of T t) r.weighed
 
-  pub root_planted : {T : Nodes} {t k : ℕ} (before words : List ℕ) {c : ℕ} → Rooted B T t k → c ≡ nodes_of (whole 0 (tree_of T t) (n - 1)) → Planting.Planted (whole 0 (tree_of T t) (n - 1)) c (plot_of words) → plot_of words ≡ planted_in (whole 0 (tree_of T t) (n - 1)) (plot_of before) → nodes_held words ≡ c → PlantedOrNot B (Planted c) before words
+  pub root_planted : {T : Nodes} {t k : ℕ} (before words : List ℕ) {c : ℕ} → Rooted B T t k → c ≡ nodes_of (whole 0 (tree_of T t) (n - 1)) → Planting.Planted (whole 0 (tree_of T t) (n - 1)) c (plot_of words) → plot_of words ≡ planted_in (whole 0 (tree_of T t) (n - 1)) (plot_of before) → nodes_held words ≡ c → PlantedOrNot B (Ok c) before words
   root_planted {T} {t} before words r count planted written held =
       record {
         fits = built _ r.whole;

@@ -1,5 +1,5 @@
 -- What planting the tree of a block asks, and what it leaves in the words of a tree.
-use Rattle.std.specs.Prelude.{◌≡◌, List, ℕ, ◌≤◌, ◌<◌, length}
+use Rattle.std.specs.Prelude.{◌≡◌, Result, Ok, Err, List, ℕ, ◌≤◌, ◌<◌, length}
 use Rattle.model.specs.Block.{Block}
 use Rattle.model.specs.Part.{SeriesParallel}
 use Rattle.model.specs.Refusal.{SoundNetwork}
@@ -11,8 +11,7 @@ use Rattle.optimum.specs.BlockTree.{block_tree}
 use Rattle.planting.specs.Copy.{planted_in, max_nodes}
 use Rattle.planting.specs.Planted as Planting
 use Rattle.planting.specs.TreeWords.{plot_of, nodes_held}
-use Rattle.shaping.specs.declared.plant.TreeAnswer.{TreeAnswer}
-use Rattle.shaping.specs.declared.plant.TreeAnswer.TheVariants.{Planted, NotSeriesParallel}
+use Rattle.slots.specs.declared.NotSeriesParallel.{NotSeriesParallel}
 
 -- B is within the limits of a file, its network is sound, and its m wires stand in the arrays.
 pub record Given (B : Block) (n m : ℕ) (sources targets wire_delays : List ℕ) : Type 0 where
@@ -38,6 +37,6 @@ pub record PlantedBlock (B : Block) (c : ℕ) (before words : List ℕ) : Type 0
   pub few : c ≤ max_nodes
 
 -- The block's tree stands in the words; or the block is not series-parallel, which the lowest gate that remains tells, and the words are as before.
-abbrev pub PlantedOrNot : Block → TreeAnswer → List ℕ → List ℕ → Type 0
-PlantedOrNot B (Planted c) before words = PlantedBlock B c before words
-PlantedOrNot B (NotSeriesParallel g) before words = NotSeriesParallelAt B g × (words ≡ before)
+abbrev pub PlantedOrNot : Block → Result ℕ NotSeriesParallel → List ℕ → List ℕ → Type 0
+PlantedOrNot B (Ok c) before words = PlantedBlock B c before words
+PlantedOrNot B (Err e) before words = NotSeriesParallelAt B e.gate × (words ≡ before)

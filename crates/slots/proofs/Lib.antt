@@ -1,3 +1,2 @@
-pub mod SoughtLaws
 pub mod ChainLaws
 pub mod FinishLaws

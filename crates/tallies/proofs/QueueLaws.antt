@@ -1,6 +1,5 @@
--- Gates put in the queue one after another (`lined_up_more`), the queue's tail, and what the answer of `waits` says (`says_waits`). Assumes nothing.
+-- Gates put in the queue one after another (`lined_up_more`), and the tail of the queue. Assumes nothing.
 use mathlib.Core.Path.{◌≡◌, refl, ◌∙◌}
-use mathlib.Core.Bool.{Bool, true, false}
 use mathlib.Core.List.{List}
 use Prim.Native.Nat.{ℕ, ◌+◌, ◌<◌}
 use native.Mathlib.Decide.{ℕ_discrete}
@@ -8,8 +7,7 @@ use native.Mathlib.Omega.{arith}
 use borrow.Author.Tests.{eq-eqb, ne_eqb}
 use lib.ListN.{length, get_or, set}
 use lib.Seq.{get_or-set_same, get_or-set_other}
-use Rattle.lists.specs.Search.{Says}
-use Rattle.tallies.specs.Queue.{CanGo, LinedUp, Waits, tail_after}
+use Rattle.tallies.specs.Queue.{LinedUp, tail_after}
 
 -- one gate more in the queue
 pub lined_up_more : (queue places : List ℕ) (g : ℕ) → g < length queue → g < length places → LinedUp g queue places → LinedUp (g + 1) (set queue g g) (set places g g)
@@ -24,8 +22,3 @@ tail_stays c r tail e = rw (eq-eqb r c e) refl
 
 pub tail_goes : (c r tail : ℕ) → (r ≡ c → ⊥) → tail + 2 ≡ tail_after c r tail
 tail_goes c r tail d = rw (ne_eqb r c d) refl
-
--- at its place, a gate waits where it can go
-pub says_waits : (ins outs places : List ℕ) (a b head m : ℕ) (r : Bool) → get_or places m 0 ≡ head → Says (CanGo ins outs a b m) r → Says (Waits ins outs places a b head m) r
-says_waits ins outs places a b head m true e s = record { place = e; can = s }
-says_waits ins outs places a b head m false e s = λ w. s w.can

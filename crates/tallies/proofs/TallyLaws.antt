@@ -17,14 +17,6 @@ use Rattle.model.specs.Limits.{max_wires}
 use Rattle.tallies.specs.Tallies.{share, most_share, share_at, tally, end_gates, OnlyAt, settled, kept_share, TalliedBy}
 use Rattle.tallies.specs.Queue.{One}
 
--- one more tally put to 0
-pub cleared_more : (tallies : List ℕ) (g : ℕ) → g < length tallies → ((j : ℕ) → j < g → get_or tallies j 0 ≡ 0) → (j : ℕ) → j < g + 1 → get_or (set tallies g 0) j 0 ≡ 0
-cleared_more tallies g h all j l = go (ℕ_discrete j g)
-  where
-    go : Dec (j ≡ g) → get_or (set tallies g 0) j 0 ≡ 0
-    go (yes e) = ap (λ i. get_or (set tallies g 0) i 0) e ∙ get_or-set_same tallies g 0 0 h
-    go (no n) = get_or-set_other tallies g j 0 0 n ∙ all j (omega arith)
-
 -- Sums.
 sum_none : (k : ℕ) → sum k (λ i. 0) ≡ 0
 unfolding sum

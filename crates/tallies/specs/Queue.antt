@@ -1,6 +1,10 @@
 -- Which gates can go by their tallies, and the queue in which they wait.
 use Rattle.std.specs.Prelude.{◌≡◌, ◌≢◌, cond, List, ℕ, ◌+◌, ◌≤◌, ◌<◌, eqb, get_or}
-use Rattle.model.specs.Limits.{max_wires}
+use Rattle.model.specs.Limits.{max_gates, max_wires}
+
+-- turns in the queue, at most: one for each gate, and two for each gate that goes
+abbrev pub max_turns : ℕ
+max_turns = max_gates + (max_gates + max_gates)
 
 -- a tally of one slot
 pub record One (t : ℕ) : Type 0 where

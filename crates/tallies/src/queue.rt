@@ -2,59 +2,70 @@
 ghost use Rattle.std.specs.Prelude.{◌≡◌, ◌+◌, ◌^◌, ◌≤◌, ◌<◌, length, set};
 ghost use Rattle.lists.specs.Search.{Says};
 ghost use Rattle.model.specs.Limits.{max_gates};
-ghost use Rattle.tallies.specs.Queue.{LinedUp, Waits, tail_after};
+ghost use Rattle.tallies.specs.Queue.{LinedUp, Waits, max_turns};
 
-use crate::tally::can_go;
+use crate::tally::Tallies;
+use model::limits::MAX_GATES;
 
-// Gate g stands in the queue at `at`.
-pub fn put(queue: &mut [u8], places: &mut [u32], at: usize, g: usize)
-    requires at_in_bounds { (at < length queue.old) × (at < 2 ^ 32) }
-    requires g_in_bounds { (g < length places.old) × (g < max_gates) }
-    ensures queue_after { queue.new ≡ set queue.old at g }
-    ensures places_after { places.new ≡ set places.old g at }
-{
-    queue[at] = g as u8;
-    places[g] = at as u32;
+// Turns in the queue, at most: one for each gate, and two for each gate that goes.
+pub const MAX_TURNS: usize = MAX_GATES + MAX_GATES + MAX_GATES;
+
+// The gates in the queue stand from `head` on and below `tail`; for each gate its place.
+#[derive(Drop)]
+pub struct Queue {
+    pub gates: [u8; MAX_TURNS],
+    pub places: [u32; MAX_GATES],
+    pub head: usize,
+    pub tail: usize,
 }
 
-// The n gates stand in the queue.
-pub fn line_up(queue: &mut [u8], places: &mut [u32], n: usize)
-    requires { (n ≤ max_gates) × (n ≤ length queue.old) × (n ≤ length places.old) }
-    ensures { LinedUp n queue.new places.new }
-{
-    let mut g = 0;
-    while g < n {
-        put(queue, places, g, g);
-        g += 1;
+impl Queue {
+    // The first n gates stand in the queue.
+    pub fn line_up(n: usize) -> Queue
+        requires { n ≤ max_gates }
+        ensures lined_up { LinedUp n result.gates result.places }
+        ensures ends { (result.head ≡ 0) × (result.tail ≡ n) }
+    {
+        let mut queue = Queue {
+            gates: [0; MAX_TURNS],
+            places: [0; MAX_GATES],
+            head: 0,
+            tail: 0,
+        };
+        for g in 0..n {
+            queue.put(g);
+        }
+        queue
     }
-}
 
-// Whether gate m, which stands in the queue at `head`, has its place there and can go.
-pub fn waits(
-    ins: &[u32],
-    outs: &[u32],
-    places: &[u32],
-    head: usize,
-    m: usize,
-    first: usize,
-    last: usize,
-) -> bool
-    requires { (m < length ins.now) × (m < length outs.now) × (m < length places.now) × (head < 2 ^ 32) }
-    ensures { Says (Waits ins.now outs.now places.now first last head m) result }
-{
-    if places[m] != head as u32 {
-        return false;
+    // Gate g stands at the tail.
+    fn put(&mut self, g: usize)
+        requires { (self.old.tail < max_turns) × (g < max_gates) }
+        ensures gates_after { self.new.gates ≡ set self.old.gates self.old.tail g }
+        ensures places_after { self.new.places ≡ set self.old.places g self.old.tail }
+        ensures ends { (self.new.head ≡ self.old.head) × (self.new.tail ≡ self.old.tail + 1) }
+    {
+        self.gates[self.tail] = g as u8;
+        self.places[g] = self.tail as u32;
+        self.tail += 1;
     }
-    can_go(ins, outs, m, first, last)
-}
 
-// The queue's tail once two gates have joined it, where r nodes, more than c, say that a gate has gone.
-pub fn new_tail(c: usize, r: usize, tail: usize) -> usize
-    requires { tail + 2 < 2 ^ 32 }
-    ensures { result ≡ tail_after c r tail }
-{
-    if r == c {
-        return tail;
+    // The neighbours u and v of a gate that goes stand at the tail.
+    pub fn put_both(&mut self, u: usize, v: usize)
+        requires { (self.old.tail + 2 ≤ max_turns) × (u < max_gates) × (v < max_gates) }
+        ensures gates_after { self.new.gates ≡ set (set self.old.gates self.old.tail u) (self.old.tail + 1) v }
+        ensures places_after { self.new.places ≡ set (set self.old.places u self.old.tail) v (self.old.tail + 1) }
+        ensures ends { (self.new.head ≡ self.old.head) × (self.new.tail ≡ self.old.tail + 2) }
+    {
+        self.put(u);
+        self.put(v);
     }
-    tail + 2
+
+    // Whether gate m, which stands at the head, has its place there and can go.
+    pub fn waits(&self, tallies: &Tallies, m: usize, first: usize, last: usize) -> bool
+        requires { (m < max_gates) × (self.now.head < 2 ^ 32) }
+        ensures { Says (Waits tallies.now.ins tallies.now.outs self.now.places first last self.now.head m) result }
+    {
+        self.places[m] == self.head as u32 && tallies.can_go(m, first, last)
+    }
 }

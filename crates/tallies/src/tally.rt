@@ -1,28 +1,23 @@
 // Tallies of gates: for each live slot that ends at a gate, MAX_WIRES and the number of the slot.
 ghost use Rattle.std.specs.Prelude.{◌≡◌, List, ℕ, ◌+◌, ◌-◌, ◌^◌, ◌≤◌, ◌<◌, length, get_or, set};
 ghost use Rattle.lists.specs.Search.{Says};
-ghost use Rattle.model.specs.Limits.{max_wires};
+ghost use Rattle.model.specs.Limits.{max_gates, max_wires};
 ghost use Rattle.tallies.specs.Tallies.{share, TalliedBy, settled, kept_share};
 ghost use Rattle.tallies.specs.Queue.{CanGo};
 
-use model::limits::MAX_WIRES;
+use model::limits::{MAX_GATES, MAX_WIRES};
+
+// The tallies of the gates: by the slots that lead to them, and by those that leave them.
+#[derive(Drop)]
+pub struct Tallies {
+    pub ins: [u32; MAX_GATES],
+    pub outs: [u32; MAX_GATES],
+}
 
 // The least tally of one slot, and that of two.
 const ONE: u32 = MAX_WIRES as u32;
 
 const TWO: u32 = ONE + ONE;
-
-// The first n tallies put to 0.
-fn clear(tallies: &mut [u32], n: usize)
-    requires { n ≤ length tallies.old }
-    ensures { (g : ℕ) → g < n → get_or tallies.new g 0 ≡ 0 }
-{
-    let mut g = 0;
-    while g < n {
-        tallies[g] = 0;
-        g += 1;
-    }
-}
 
 // Slot i is counted at its end.
 fn count(ends: &[u32], tallies: &mut [u32], i: usize)
@@ -35,46 +30,44 @@ fn count(ends: &[u32], tallies: &mut [u32], i: usize)
     tallies[g] += (MAX_WIRES + i) as u32;
 }
 
-// The tallies of n gates by the first k slots, all of them live, of which `ends` holds one end.
-pub fn tally(ends: &[u32], tallies: &mut [u32], k: usize, n: usize)
+// The tallies of the gates by the first k slots, all of them live, of which `ends` holds one end.
+fn tally(ends: &[u32], k: usize) -> [u32; MAX_GATES]
     requires k_le_max_wires { (k ≤ max_wires) × (k ≤ length ends.now) }
-    requires n_in_bounds { n ≤ length tallies.old }
-    requires by_index { (i : ℕ) → i < k → get_or ends.now i 0 < n }
-    ensures { (lives : List ℕ) → ((i : ℕ) → i < k → get_or lives i 0 ≡ 1) → TalliedBy lives ends.now n k tallies.new }
+    requires ends_below { (i : ℕ) → i < k → get_or ends.now i 0 < max_gates }
+    ensures { (lives : List ℕ) → ((i : ℕ) → i < k → get_or lives i 0 ≡ 1) → TalliedBy lives ends.now max_gates k result }
 {
-    clear(tallies, n);
-    let mut i = 0;
-    while i < k {
-        count(ends, tallies, i);
-        i += 1;
+    let mut tallies = [0; MAX_GATES];
+    for i in 0..k {
+        count(ends, &mut tallies, i);
     }
+    tallies
 }
 
-// Whether gate m can go, by the tallies.
-pub(crate) fn can_go(ins: &[u32], outs: &[u32], m: usize, first: usize, last: usize) -> bool
-    requires m_in_bounds { m < length ins.now }
-    requires m_in_bounds_2 { m < length outs.now }
-    ensures { Says (CanGo ins.now outs.now first last m) result }
-{
-    if m == first {
-        return false;
+impl Tallies {
+    // The tallies of the gates by the first k slots, all of them live.
+    pub fn new(sources: &[u32], targets: &[u32], k: usize) -> Tallies
+        requires k_le_max_wires { (k ≤ max_wires) × (k ≤ length sources.now) × (k ≤ length targets.now) }
+        requires sources_below { (i : ℕ) → i < k → get_or sources.now i 0 < max_gates }
+        requires targets_below { (i : ℕ) → i < k → get_or targets.now i 0 < max_gates }
+        ensures ins_right { (lives : List ℕ) → ((i : ℕ) → i < k → get_or lives i 0 ≡ 1) → TalliedBy lives targets.now max_gates k result.ins }
+        ensures outs_right { (lives : List ℕ) → ((i : ℕ) → i < k → get_or lives i 0 ≡ 1) → TalliedBy lives sources.now max_gates k result.outs }
+    {
+        Tallies {
+            ins: tally(targets, k),
+            outs: tally(sources, k),
+        }
     }
-    if m == last {
-        return false;
+
+    // Whether gate m can go, by the tallies.
+    pub fn can_go(&self, m: usize, first: usize, last: usize) -> bool
+        requires { m < max_gates }
+        ensures { Says (CanGo self.now.ins self.now.outs first last m) result }
+    {
+        m != first
+            && m != last
+            && (ONE..TWO).contains(&self.ins[m])
+            && (ONE..TWO).contains(&self.outs[m])
     }
-    if ins[m] < ONE {
-        return false;
-    }
-    if ins[m] >= TWO {
-        return false;
-    }
-    if outs[m] < ONE {
-        return false;
-    }
-    if outs[m] >= TWO {
-        return false;
-    }
-    true
 }
 
 // The only slot at gate m, which its tally names.

@@ -1,0 +1,96 @@
+// The slots at the start, the slot from one gate to another, and slots that become one.
+ghost use Rattle.std.specs.Prelude.{◌≡◌, ℕ, ◌^◌, ◌≤◌, ◌<◌, length, get_or, set};
+ghost use Rattle.lists.specs.Search.{Says};
+ghost use Rattle.model.specs.Limits.{max_gates, max_wires};
+ghost use Rattle.slots.specs.Sought.{Found, Leads};
+
+use crate::Slots;
+use crate::wires::Wires;
+use model::limits::{MAX_GATES, MAX_WIRES};
+
+impl Slots {
+    // A live slot for each of k wires, whose node is the leaf of its number.
+    pub fn laid(k: usize, targets: &[u32]) -> Slots
+        requires { (k ≤ max_wires) × (k ≤ length targets.now) }
+        ensures all_live { (i : ℕ) → i < k → get_or result.live i 0 ≡ 1 }
+        ensures all_to { (i : ℕ) → i < k → get_or result.to i 0 ≡ get_or targets.now i 0 }
+        ensures all_top { (i : ℕ) → i < k → get_or result.top i 0 ≡ i }
+    {
+        let mut live = [0; MAX_WIRES];
+        live[..k].fill(1);
+        let mut to = [0; MAX_WIRES];
+        to[..k].copy_from_slice(&targets[..k]);
+        let mut top = [0; MAX_WIRES];
+        for i in 0..k {
+            top[i] = i as u32;
+        }
+        Slots {
+            live,
+            to,
+            top,
+            recent: [0; MAX_GATES],
+        }
+    }
+
+    // Whether slot i is live and leads from a to b.
+    fn leads(&self, wires: &Wires, i: usize, a: u32, b: u32) -> bool
+        requires { i < wires.now.count }
+        ensures { Says (Leads self.now.live wires.now.sources.now self.now.to a b i) result }
+    {
+        self.live[i] == 1 && wires.sources[i] == a && self.to[i] == b
+    }
+
+    // The slot that leads from a to b, looked for in the chain of the slots that leave a.
+    fn in_chain(&self, wires: &Wires, a: u32, b: u32) -> Option<usize>
+        requires { a < max_gates }
+        ensures { Found (Leads self.now.live wires.now.sources.now self.now.to a b) wires.now.count result }
+    {
+        let mut next = wires.heads[a as usize] as usize;
+        while 0 < next {
+            let i = next - 1;
+            if self.leads(wires, i, a, b) {
+                return Some(i);
+            }
+            next = wires.links[i] as usize;
+        }
+        None
+    }
+
+    // The slot that leads from a to b. The slot remembered for a is tried first; whatever it is, the answer is the same.
+    pub fn between(&self, wires: &Wires, a: u32, b: u32) -> Option<usize>
+        requires { a < max_gates }
+        ensures { Found (Leads self.now.live wires.now.sources.now self.now.to a b) wires.now.count result }
+    {
+        let l = self.recent[a as usize] as usize;
+        if l < wires.count && self.leads(wires, l, a, b) {
+            return Some(l);
+        }
+        self.in_chain(wires, a, b)
+    }
+
+    // Slots i and j become one in i's place, of node c; it leaves gate a.
+    pub fn join(&mut self, i: usize, j: usize, a: u32, c: u32)
+        requires { (i < max_wires) × (j < max_wires) × (a < max_gates) }
+        ensures live_after { self.new.live ≡ set self.old.live j 0 }
+        ensures to_after { self.new.to ≡ set self.old.to i (get_or self.old.to j 0) }
+        ensures top_after { self.new.top ≡ set self.old.top i c }
+    {
+        self.live[j] = 0;
+        self.to[i] = self.to[j];
+        self.top[i] = c;
+        self.recent[a as usize] = i as u32;
+    }
+
+    // Slot l, of node c now, takes up slots i and j; it leaves gate a.
+    pub fn take_up(&mut self, i: usize, j: usize, l: usize, a: u32, c: u32)
+        requires { (i < max_wires) × (j < max_wires) × (l < max_wires) × (a < max_gates) }
+        ensures live_after { self.new.live ≡ set (set self.old.live i 0) j 0 }
+        ensures to_after { self.new.to ≡ self.old.to }
+        ensures top_after { self.new.top ≡ set self.old.top l c }
+    {
+        self.live[i] = 0;
+        self.live[j] = 0;
+        self.top[l] = c;
+        self.recent[a as usize] = l as u32;
+    }
+}

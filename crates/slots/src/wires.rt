@@ -1,0 +1,41 @@
+// The wires of a block, chained by the gates that they leave: a slot never leaves another gate than at the start, so the slots that leave a gate are one chain from start to end.
+ghost use Rattle.std.specs.Prelude.{◌≡◌, ℕ, ◌≤◌, ◌<◌, length, get_or};
+ghost use Rattle.model.specs.Limits.{max_gates, max_wires};
+ghost use Rattle.ordering.specs.Chain.{Chained};
+
+use model::limits::{MAX_GATES, MAX_WIRES};
+use ordering::chain::chain_wires;
+
+// `count` wires of a block of `gates` gates, with the chains of those that leave a gate.
+#[derive(Drop)]
+pub struct Wires<'a> {
+    pub gates: usize,
+    pub count: usize,
+    pub sources: &'a [u32],
+    pub heads: [u32; MAX_GATES],
+    pub links: [u32; MAX_WIRES],
+    pub ghost few_gates: { gates ≤ max_gates },
+    pub ghost few_wires: { count ≤ max_wires },
+    pub ghost all_sources: { count ≤ length sources.now },
+    pub ghost sources_below: { (i : ℕ) → i < count → get_or sources.now i 0 < gates },
+    pub ghost chained: { Chained sources.now count heads links },
+}
+
+impl<'a> Wires<'a> {
+    pub fn new(gates: usize, count: usize, sources: &'a [u32]) -> Wires<'a>
+        requires few { (gates ≤ max_gates) × (count ≤ max_wires) × (count ≤ length sources.now) }
+        requires sources_below { (i : ℕ) → i < count → get_or sources.now i 0 < gates }
+        ensures same { (result.gates ≡ gates) × (result.count ≡ count) × (result.sources ≡ sources.entry) }
+    {
+        let mut heads = [0; MAX_GATES];
+        let mut links = [0; MAX_WIRES];
+        chain_wires(count, sources, &mut heads, &mut links);
+        Wires {
+            gates,
+            count,
+            sources,
+            heads,
+            links,
+        }
+    }
+}
