@@ -7,7 +7,7 @@ use holding::{input_activities_of, start_of};
 use loading::block::HeldBlock;
 use model::{BestFound, Refusal};
 use planting::tree_words::TREE_WORDS;
-use shaping::plant::{TreeAnswer, plant_block};
+use shaping::plant::{NotSeriesParallel, plant_block};
 use spending::tree::tree_increases;
 
 // The best increases of the block, to the front of the slice.
@@ -27,7 +27,7 @@ pub fn best_held(block: &HeldBlock, increases: &mut [u32]) -> Result<BestFound, 
         &block.wire_delays,
         &mut tree,
     );
-    if let TreeAnswer::NotSeriesParallel { gate } = planted {
+    if let Err(NotSeriesParallel { gate }) = planted {
         return Err(Refusal::NotSeriesParallel { gate });
     }
     let start = start_of(block);

@@ -9,7 +9,7 @@ use loading::block::HeldBlock;
 use model::limits::MAX_GATES;
 use model::{CurveFound, Refusal};
 use planting::tree_words::TREE_WORDS;
-use shaping::plant::{TreeAnswer, plant_block};
+use shaping::plant::{NotSeriesParallel, plant_block};
 use spending::tree::tree_curve;
 
 // The curve of the block, whatever its arrival and deadline: its pairs to the front of the two slices.
@@ -34,7 +34,7 @@ pub fn curve_held(
         &block.wire_delays,
         &mut tree,
     );
-    if let TreeAnswer::NotSeriesParallel { gate } = planted {
+    if let Err(NotSeriesParallel { gate }) = planted {
         return Err(Refusal::NotSeriesParallel { gate });
     }
     let start = start_of(block);

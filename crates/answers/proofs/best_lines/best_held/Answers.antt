@@ -12,8 +12,8 @@ use Rattle.answers.proofs.best_lines.best_held.Goals as goal
 pub plant_block-planted-requires : goal.plant_block-planted-requires
 plant_block-planted-requires c = record { given = (block c.requires.held.1, given c.requires.held.1); wires_long = wires_long c.requires.held.1; tree_words_in_bounds = omega arith }
 
-pub returns-in-NotSeriesParallel : goal.returns-in-NotSeriesParallel
-returns-in-NotSeriesParallel c = λ file h. fits _ (rw c.in-NotSeriesParallel.is at (c.plant_block-planted.ensures.planted (block h) (given h))).0 refl
+pub returns-in-Err : goal.returns-in-Err
+returns-in-Err c = λ file h. fits _ (rw c.in-Err.is at (c.plant_block-planted.ensures.planted (block h) (given h))).0 refl
 
 pub overflow_add-arrival : goal.overflow_add-arrival
 overflow_add-arrival c = omega (arith, (the_limits c.requires.held.1).arrival_most, c.start_of-start.ensures.small)
