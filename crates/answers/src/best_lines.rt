@@ -8,7 +8,7 @@ ghost use Rattle.loading.specs.HeldFile.{HeldFile};
 use gains::inputs::input_activities;
 use model::limits::{GateNumbers, MAX_GATES, StepNumbers};
 use model::{BestAnswer, Refusal};
-use planting::tree_words::TREE_WORDS;
+use planting::tree::Tree;
 use shaping::plant::{TreeAnswer, plant_block};
 use spending::tree::tree_increases;
 use timing::start::start_time;
@@ -36,7 +36,7 @@ pub fn best_held(
     requires n_in_bounds { n ≤ length increases.old }
     ensures { (file : List ℕ) → HeldFile file n m arrival deadline activity (gate_arrays delays.now activities.now counts.now step_widths.now drops.now) (wire_arrays sources.now targets.now wire_delays.now) order.now → BestLines (block_held n m arrival deadline activity (gate_arrays delays.now activities.now counts.now step_widths.now drops.now) (wire_arrays sources.now targets.now wire_delays.now)) increases.old (record { answer = best_answer result; memory = increases.new }) }
 {
-    let mut tree = [0u32; TREE_WORDS];
+    let mut tree = Tree::new();
     let planted = plant_block(n, m, sources, targets, wire_delays, &mut tree);
     if let TreeAnswer::NotSeriesParallel { gate } = planted {
         return BestAnswer::Refused(Refusal::NotSeriesParallel { gate });

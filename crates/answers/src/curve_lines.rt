@@ -9,7 +9,7 @@ ghost use Rattle.loading.specs.HeldFile.{HeldFile};
 use gains::inputs::input_activities;
 use model::limits::{GateNumbers, MAX_GATES, StepNumbers};
 use model::{CurveAnswer, Refusal};
-use planting::tree_words::TREE_WORDS;
+use planting::tree::Tree;
 use shaping::plant::{TreeAnswer, plant_block};
 use spending::tree::tree_curve;
 use timing::start::start_time;
@@ -37,7 +37,7 @@ pub fn curve_held(
     ensures by_index_2 { (file : List ℕ) (arrival deadline : ℕ) → HeldFile file n m arrival deadline activity (gate_arrays delays.now activities.now counts.now step_widths.now drops.now) (wire_arrays sources.now targets.now wire_delays.now) order.now → CurveLines (block_held n m arrival deadline activity (gate_arrays delays.now activities.now counts.now step_widths.now drops.now) (wire_arrays sources.now targets.now wire_delays.now)) (record { for_widths = widths.old; for_gains = gains.old }) (record { answer = curve_answer result; memory = record { for_widths = widths.new; for_gains = gains.new } }) }
     ensures curve_bounds { CurveBounds result gains.new }
 {
-    let mut tree = [0u32; TREE_WORDS];
+    let mut tree = Tree::new();
     let planted = plant_block(n, m, sources, targets, wire_delays, &mut tree);
     if let TreeAnswer::NotSeriesParallel { gate } = planted {
         return CurveAnswer::Refused(Refusal::NotSeriesParallel { gate });

@@ -1,11 +1,11 @@
-// The tree of a block's parts, planted in the words of a tree.
+// The tree of a block's parts, planted.
 ghost use Rattle.std.specs.Prelude.{◌≤◌, length};
 ghost use Rattle.model.specs.Block.{Block};
-ghost use Rattle.planting.specs.TreeWords.{tree_words};
+ghost use Rattle.planting.specs.Copy.{max_nodes};
 ghost use Rattle.shaping.specs.PlantedBlock.{Given, WiresLong, PlantedOrNot};
 
 use model::limits::{MAX_GATES, MAX_WIRES};
-use planting::tree_words::TreeWords;
+use planting::tree::Tree;
 use planting::{MAX_REDUCED, plant, plant_lone};
 use reduction::reduce_network;
 use slots::Answer;
@@ -17,7 +17,7 @@ pub enum TreeAnswer {
     NotSeriesParallel { gate: usize },
 }
 
-// The tree of a block of n gates and m wires, which stand in the arrays, planted in the words of a tree. Nodes beyond are as before, and so are all words where the block is not series-parallel.
+// The tree of a block of n gates and m wires, which stand in the arrays, planted. Nodes beyond are as before, and so is the whole tree where the block is not series-parallel.
 // Public for the crates above only: they have shown that the wires are those of a sound network.
 pub fn plant_block(
     n: usize,
@@ -25,11 +25,11 @@ pub fn plant_block(
     sources: &[u32],
     targets: &[u32],
     wire_delays: &[u32],
-    tree: &mut TreeWords,
+    tree: &mut Tree,
 ) -> TreeAnswer
     requires given { (B : Block) × Given B n m sources.now targets.now wire_delays.now }
     requires wires_long { WiresLong m sources.now targets.now wire_delays.now }
-    requires tree_words_in_bounds { tree_words ≤ length tree.old }
+    requires nodes_long { max_nodes ≤ length tree.old.nodes }
     ensures planted { (B : Block) → Given B n m sources.now targets.now wire_delays.now → PlantedOrNot B result tree.old tree.new }
 {
     let mut live = [0u32; MAX_WIRES];

@@ -10,7 +10,7 @@ use blockwords::BlockWords;
 use handout::series_give_out;
 use heads::head_words::HeadWords;
 use heads::store::node_entry;
-use planting::tree_words::TreeWords;
+use planting::tree::Tree;
 use ties::gain_in;
 
 // Whether the last of `count` pairs has this gain.
@@ -55,7 +55,7 @@ pub fn spend_ticks(
     ticks: u32,
     steps: usize,
     block: &BlockWords,
-    tree: &TreeWords,
+    tree: &Tree,
     increases: &mut [u32],
     heads: &mut HeadWords,
     pair_widths: &mut [u32],

@@ -9,8 +9,7 @@ use crate::ticks::ticks_out;
 use blockwords::BlockWords;
 use heads::below::renew;
 use heads::head_words::HeadWords;
-use heads::tree::{kind_at, left_at, node_count, right_at};
-use planting::tree_words::TreeWords;
+use planting::tree::{Kind, Tree};
 
 // How much b is short of a.
 fn shortfall(a: u32, b: u32) -> u32
@@ -23,7 +22,7 @@ fn shortfall(a: u32, b: u32) -> u32
 fn raise_sides(
     i: usize,
     block: &BlockWords,
-    tree: &TreeWords,
+    tree: &Tree,
     lengths: &[u32],
     increases: &mut [u32],
     heads: &mut HeadWords,
@@ -34,11 +33,11 @@ fn raise_sides(
     ensures standing_2 { Standing (plan block.now tree.now) (state increases.new heads.new) i }
     ensures levelled { Levelled (plan block.now tree.now) lengths.now increases.old increases.new i }
 {
-    if kind_at(tree, i) < 2 {
+    let Kind::Parallel { left, right } = tree.kind_at(i) else {
         return;
-    }
-    let left = left_at(tree, i);
-    let right = right_at(tree, i);
+    };
+    let left = left as usize;
+    let right = right as usize;
     let more_left = shortfall(lengths[right], lengths[left]);
     let more_right = shortfall(lengths[left], lengths[right]);
     ticks_out(left, more_left, block, tree, increases, heads);
@@ -48,7 +47,7 @@ fn raise_sides(
 // From no increase: the increases of the raised start, and the heads of all nodes with them.
 pub fn raise_and_fill(
     block: &BlockWords,
-    tree: &TreeWords,
+    tree: &Tree,
     lengths: &[u32],
     increases: &mut [u32],
     heads: &mut HeadWords,
@@ -58,7 +57,7 @@ pub fn raise_and_fill(
     requires tree_in_bounds { node_count (tree_nodes tree.now) ≤ length lengths.now }
     ensures { (d : ℕ → ℕ) → Lengths (tree_nodes tree.now) d lengths.now (node_count (tree_nodes tree.now)) → Raised (plan block.now tree.now) d (state increases.new heads.new) }
 {
-    let count = node_count(tree);
+    let count = tree.count;
     let mut i: usize = 0;
     while i < count {
         raise_sides(i, block, tree, lengths, increases, heads);

@@ -10,7 +10,7 @@ use Rattle.answers.proofs.Lines.{curve_line, curve_bounds}
 use Rattle.answers.proofs.curve_lines.curve_held.Goals as goal
 
 pub plant_block-planted-requires : goal.plant_block-planted-requires
-plant_block-planted-requires c = record { given = (block c.requires.by_index.3, given c.requires.by_index.3); wires_long = wires_long c.requires.by_index.3; tree_words_in_bounds = omega arith }
+plant_block-planted-requires c = record { given = (block c.requires.by_index.3, given c.requires.by_index.3); wires_long = wires_long c.requires.by_index.3; nodes_long = omega (arith, c.new-tree.ensures.long) }
 
 pub returns-in-NotSeriesParallel : goal.returns-in-NotSeriesParallel
 returns-in-NotSeriesParallel c = record { by_index_2 = (λ file arrival deadline h. fits _ (rw c.in-NotSeriesParallel.is at (c.plant_block-planted.ensures.planted (block h) (given h))).0 refl); curve_bounds = tt }

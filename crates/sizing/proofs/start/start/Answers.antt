@@ -5,7 +5,7 @@ use Rattle.sizing.proofs.Starting.{raisable}
 use Rattle.sizing.proofs.start.start.Goals as goal
 
 pub unslowed_heads-requires : goal.unslowed_heads-requires
-unslowed_heads-requires c = record { steps_held = c.requires.steps_held; block_in_bounds = omega (arith, c.requires.sizable.one_each); by_index = λ g l. record { room = c.requires.sizable.gate_room g l } }
+unslowed_heads-requires c = record { steps_held = c.requires.steps_held; block_in_bounds = omega (arith, c.requires.sizable.one_each); heads_there = λ g l. record { room = c.requires.sizable.gate_room g l } }
 
 pub part_lengths-requires : goal.part_lengths-requires
 part_lengths-requires c = c.requires.measurable
