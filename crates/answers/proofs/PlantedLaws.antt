@@ -21,6 +21,7 @@ use Rattle.optimum.specs.BlockTree.{block_tree, start_of, IsTree}
 use Rattle.optimum.specs.Tree.{zeros, longest}
 use Rattle.optimum.proofs.BlockTree.{block_is_tree}
 use Rattle.planting.specs.Planted.{as_tree, Planted}
+use Rattle.planting.specs.declared.tree.Tree.{Tree}
 use Rattle.planting.specs.TreeWords.{tree_nodes}
 use Rattle.planting.proofs.HeldNodes.{held_plot, kinds_held, held_planted}
 use Rattle.planting.proofs.Shaping.{own_gate, once, below, few}
@@ -40,7 +41,7 @@ module _
     {order : List ℕ}
     (h : HeldFile file n m arrival deadline activity G W order)
     {c : ℕ}
-    {before tree : List ℕ}
+    {before tree : Tree}
     (p : PlantedBlock (block h) c before tree)
   where
     tree_is : IsTree (block h) (as_tree p.tree)

@@ -6,7 +6,7 @@ ghost use Rattle.loading.specs.HeldBlock.{Holds, block_in};
 use holding::{input_activities_of, start_of};
 use loading::block::HeldBlock;
 use model::{BestFound, Refusal};
-use planting::tree_words::TREE_WORDS;
+use planting::tree::Tree;
 use shaping::plant::{NotSeriesParallel, plant_block};
 use spending::tree::tree_increases;
 
@@ -18,7 +18,7 @@ pub fn best_held(block: &HeldBlock, increases: &mut [u32]) -> Result<BestFound, 
     ensures { (file : List ℕ) → Holds file block.now → BestLines (block_in block.now) increases.old (record { answer = best_answer result; memory = increases.new }) }
 {
     let n = block.gates;
-    let mut tree = [0u32; TREE_WORDS];
+    let mut tree = Tree::new();
     let planted = plant_block(
         n,
         block.wires,

@@ -8,7 +8,7 @@ use holding::{input_activities_of, start_of};
 use loading::block::HeldBlock;
 use model::limits::MAX_GATES;
 use model::{CurveFound, Refusal};
-use planting::tree_words::TREE_WORDS;
+use planting::tree::Tree;
 use shaping::plant::{NotSeriesParallel, plant_block};
 use spending::tree::tree_curve;
 
@@ -25,7 +25,7 @@ pub fn curve_held(
     ensures curve_bounds { CurveBounds result gains.new }
 {
     let n = block.gates;
-    let mut tree = [0u32; TREE_WORDS];
+    let mut tree = Tree::new();
     let planted = plant_block(
         n,
         block.wires,

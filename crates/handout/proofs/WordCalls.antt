@@ -6,8 +6,9 @@ use mathlib.Core.List.{List}
 use Prim.Native.Nat.{ℕ, ◌+◌, ◌^◌, ◌<◌}
 use lib.ListN.{length, get_or}
 use Rattle.blockwords.specs.BlockWords.{gates_held}
-use Rattle.planting.specs.TreeWords.{tree_nodes, tree_parents}
-use Rattle.heads.specs.Plan.{heads_of, StepsHeld, NodeIn, part, kind, left, gate, right, parent}
+use Rattle.planting.specs.declared.tree.Tree.{Tree}
+use Rattle.planting.specs.TreeWords.{tree_nodes, tree_parents, NodeIn}
+use Rattle.heads.specs.Plan.{heads_of, StepsHeld, part, kind, left, gate, right, parent}
 use Rattle.heads.specs.Stored.{GateRoom, NodeRoom, CanWalk, WalkEnds, CanRenew, NodesRenewed, node_heads, head_at}
 use Rattle.heads.specs.GateHeads.{GateAdded}
 use Rattle.handout.specs.State.{CanGiveOut, GaveOut}
@@ -16,7 +17,7 @@ use Rattle.handout.proofs.Handing.{wires}
 use Rattle.handout.proofs.Calls as calls
 use Rattle.handout.proofs.Calls.{in_parallel, in_series}
 
-module _ {block tree x words : List ℕ} {i w : ℕ} (can : CanGiveOut block tree x words i w) where
+module _ {block : List ℕ} {tree : Tree} {x words : List ℕ} {i w : ℕ} (can : CanGiveOut block tree x words i w) where
   pub node_room : NodeRoom words i
   node_room = record { room = can.ready.lent.room i can.ready.node }
 
@@ -34,9 +35,9 @@ module _ {block tree x words : List ℕ} {i w : ℕ} (can : CanGiveOut block tre
     item_node = node_in tree j (calls.item_in can.ready ends.ended) can.ready.sound.shaped.few_nodes
 
     -- the gate at the end of the way
-    module _ {t g : ℕ} (ek : t ≡ kind (tree_nodes tree) j) (s : t ≡ 1) (eg : g ≡ gate (tree_nodes tree) j) where
+    module _ {g : ℕ} (s : 1 ≡ kind (tree_nodes tree) j) (eg : g ≡ gate (tree_nodes tree) j) where
       is_series : kind (tree_nodes tree) j ≡ 1
-      is_series = sym ek ∙ s
+      is_series = sym s
 
       pub gate_asked : {a : ℕ} → a ≡ (head_at (node_heads words) i).gain → a ≢ 0
           → (g < gates_held block) × StepsHeld block × (g < length x) × (get_or x g 0 + w < 2 ^ 32) × GateRoom words g

@@ -1,6 +1,7 @@
 -- What changes while ticks are handed out: the increases, the heads of the gates and the heads of the nodes. What a hand-out asks of them, and what it leaves.
 use Rattle.std.specs.Prelude.{◌≡◌, List, ℕ, ◌≤◌, ◌<◌, length, get_or}
 use Rattle.optimum.specs.Increases.{give_list}
+use Rattle.planting.specs.declared.tree.Tree.{Tree}
 use Rattle.heads.specs.Plan.{Plan, Sound, StepsHeld, plan, node_count, part}
 use Rattle.heads.specs.Stored.{Stored, Room, Local, Keeps, Lent, head_at, gate_heads, node_heads}
 
@@ -38,11 +39,11 @@ pub record GivenOut (P : Plan) (S S' : State) (i w p : ℕ) : Type 0 where
   pub keeps : Keeps P.nodes S.gates S.nodes S'.gates S'.nodes p
 
 -- w ticks can be handed out at node i, over words
-pub record CanGiveOut (block tree x words : List ℕ) (i w : ℕ) : Type 0 where
+pub record CanGiveOut (block : List ℕ) (tree : Tree) (x words : List ℕ) (i w : ℕ) : Type 0 where
   pub ready : Ready (plan block tree) (state x words) i
   pub steps : StepsHeld block
   pub fitting : Fitting (state x words) i w
 
 -- they have been
-pub record GaveOut (block tree x words x' words' : List ℕ) (i w p : ℕ) : Type 0 where
+pub record GaveOut (block : List ℕ) (tree : Tree) (x words x' words' : List ℕ) (i w p : ℕ) : Type 0 where
   pub given : GivenOut (plan block tree) (state x words) (state x' words') i w p

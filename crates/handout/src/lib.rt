@@ -12,9 +12,8 @@ use heads::below::renew_up;
 use heads::gate::gate_give_out;
 use heads::head_words::HeadWords;
 use heads::store::node_gain;
-use heads::tree::{gate_at, kind_at, left_at, right_at};
 use heads::way::descend;
-use planting::tree_words::TreeWords;
+use planting::tree::{Kind, Tree};
 
 // Hands out w ticks at node i, to the item that leads: a gate, or a parallel part. Without a head it does nothing.
 #[cycle(parallel_give_out_series_give_out)]
@@ -22,7 +21,7 @@ pub fn series_give_out(
     i: usize,
     w: u32,
     block: &BlockWords,
-    tree: &TreeWords,
+    tree: &Tree,
     increases: &mut [u32],
     heads: &mut HeadWords,
 )
@@ -33,8 +32,8 @@ pub fn series_give_out(
         return;
     }
     let j = descend(i, tree, &*heads);
-    if kind_at(tree, j) == 1 {
-        gate_give_out(gate_at(tree, j), w, block, increases, heads);
+    if let Kind::Series { gate, .. } = tree.kind_at(j) {
+        gate_give_out(gate, w, block, increases, heads);
     } else {
         parallel_give_out(j, w, block, tree, increases, heads);
     }
@@ -47,7 +46,7 @@ pub fn parallel_give_out(
     i: usize,
     w: u32,
     block: &BlockWords,
-    tree: &TreeWords,
+    tree: &Tree,
     increases: &mut [u32],
     heads: &mut HeadWords,
 )
@@ -55,8 +54,11 @@ pub fn parallel_give_out(
     requires can_give_out { CanGiveOut block.now tree.now increases.old heads.old i w }
     ensures { GaveOut block.now tree.now increases.old heads.old increases.new heads.new i w i }
 {
-    let left = left_at(tree, i);
-    let right = right_at(tree, i);
+    let Kind::Parallel { left, right } = tree.kind_at(i) else {
+        unreachable!();
+    };
+    let left = left as usize;
+    let right = right as usize;
     series_give_out(left, w, block, tree, increases, heads);
     series_give_out(right, w, block, tree, increases, heads);
 }

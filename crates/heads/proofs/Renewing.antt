@@ -4,17 +4,18 @@ use mathlib.Core.Path.{◌≡◌, refl, ◌∙◌}
 use mathlib.Core.List.{List}
 use Prim.Native.Nat.{ℕ, ◌≤◌, ◌<◌}
 use native.Mathlib.Omega.{arith}
-use Rattle.planting.specs.TreeWords.{tree_nodes, tree_parents}
-use Rattle.heads.specs.Plan.{NodeIn, parent}
+use Rattle.planting.specs.declared.tree.Tree.{Tree}
+use Rattle.planting.specs.TreeWords.{tree_nodes, tree_parents, NodeIn}
+use Rattle.heads.specs.Plan.{parent}
 use Rattle.heads.specs.Stored.{CanMake, CanRenew, NodeWritten, NodesRenewed, gate_heads, node_heads, head_below, put}
 use Rattle.heads.proofs.Reading.{node_in}
 use Rattle.heads.proofs.Climbing.{Climbed, climb_starts, climb_makes, climb_further, climb_rises, climb_ends, up_within}
 
-pub record ClimbedIn (tree words₀ : List ℕ) (j i : ℕ) (words : List ℕ) (k : ℕ) : Type 0 where
+pub record ClimbedIn (tree : Tree) (words₀ : List ℕ) (j i : ℕ) (words : List ℕ) (k : ℕ) : Type 0 where
   pub gates : gate_heads words ≡ gate_heads words₀
   pub climbed : Climbed (tree_nodes tree) (tree_parents tree) (gate_heads words₀) (node_heads words₀) j i (node_heads words) k
 
-module _ {tree words₀ : List ℕ} {j i : ℕ} (can : CanRenew tree words₀ j i) where
+module _ {tree : Tree} {words₀ : List ℕ} {j i : ℕ} (can : CanRenew tree words₀ j i) where
   pub starts : ClimbedIn tree words₀ j i words₀ j
   starts = record { gates = refl; climbed = climb_starts can.renewable }
 

@@ -114,7 +114,7 @@ unfolding step_head
 tick_some r a width drop d = rw (ne_eqb (drop * a) 0 d)
 
 -- an increase and the head that goes with it, stored
-pub gate_added : (heads : ℕ → ℕ → Head) (x : List ℕ) {words : List ℕ} (g w : ℕ) {at : ℕ} {words' : List ℕ} {a : Head} → at ≡ g → a ≡ heads g (get_or x at 0 + w)
-    → a.rank < ranks → GateWritten words words' at a → GateAdded heads x (set x at (get_or x at 0 + w)) words words' g w
-gate_added heads x g w t e l f =
-    record { added = record { increases = rw t; written = f.gates ∙ rw (e, t); low = rw (e, t) at l }; nodes = f.nodes }
+pub gate_added : (heads : ℕ → ℕ → Head) (x : List ℕ) {words : List ℕ} (g w : ℕ) {words' : List ℕ} {a : Head} → a ≡ heads g (get_or x g 0 + w)
+    → a.rank < ranks → GateWritten words words' g a → GateAdded heads x (set x g (get_or x g 0 + w)) words words' g w
+gate_added heads x g w e l f =
+    record { added = record { increases = refl; written = f.gates ∙ rw e; low = rw e at l }; nodes = f.nodes }

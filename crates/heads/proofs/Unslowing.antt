@@ -23,15 +23,15 @@ unslowed_none heads x words =
 
 -- the heads of one gate more
 pub unslowed_more : {heads : ℕ → ℕ → Head} {x words₀ words : List ℕ} {g : ℕ} → GatesUnslowed heads g x words₀ words → g < length x → GateRoom words₀ g
-    → {at : ℕ} {a : Head} {words' : List ℕ} → at ≡ g → a ≡ heads g 0 → a.rank < ranks → GateWritten words words' at a
-    → GatesUnslowed heads (g + 1) (set x at 0) words₀ words'
-unslowed_more {heads} {x} {words₀} {words} {g} before l place {at} {a} {words'} t e low w =
+    → {a : Head} {words' : List ℕ} → a ≡ heads g 0 → a.rank < ranks → GateWritten words words' g a
+    → GatesUnslowed heads (g + 1) (set x g 0) words₀ words'
+unslowed_more {heads} {x} {words₀} {words} {g} before l place {a} {words'} e low w =
     record {
       unslowed = record {
-        no_increase = λ k b. rw t (at_gate k b (ℕ_discrete k g));
-        right = λ k b. rw (w.gates, t, e) (at_head k b (ℕ_discrete k g));
+        no_increase = λ k b. at_gate k b (ℕ_discrete k g);
+        right = λ k b. rw (w.gates, e) (at_head k b (ℕ_discrete k g));
       };
-      room = λ k r. rw w.gates (room_put (gate_heads words) at k a (before.room k r));
+      room = λ k r. rw w.gates (room_put (gate_heads words) g k a (before.room k r));
       nodes = w.nodes ∙ before.nodes;
     }
   where

@@ -1,4 +1,4 @@
--- The tree of parts in words, with the number of each node's parent, and the heads that the gates have by their steps. Nothing of it changes while ticks are handed out.
+-- The tree of parts, with the number of each node's parent, and the heads that the gates have by their steps. Nothing of it changes while ticks are handed out.
 use Rattle.std.specs.Prelude.{◌≡◌, cond, List, ℕ, ◌+◌, ◌*◌, ◌^◌, ◌≤◌, ◌<◌, ltb, eqb, length, get_or}
 use Rattle.lists.specs.Over.{build}
 use Rattle.model.specs.Limits.{max_gates, max_wires, max_steps, max_activity, max_drop}
@@ -8,7 +8,8 @@ use Rattle.model.specs.Arrays.{step_at}
 use Rattle.parts.specs.Nodes.{Nodes, tree_of}
 use Rattle.planting.specs.Copy.{max_nodes}
 use Rattle.planting.specs.Planted.{as_tree}
-use Rattle.planting.specs.TreeWords.{nodes_held, tree_nodes, tree_parents}
+use Rattle.planting.specs.declared.tree.Tree.{Tree as StoredTree}
+use Rattle.planting.specs.TreeWords.{tree_nodes, tree_parents}
 use Rattle.optimum.specs.Tree.{Tree, Once, Below, size}
 use Rattle.optimum.specs.Head.{Head, Heads, no_head, rank}
 use Rattle.optimum.specs.Gates.{room}
@@ -35,11 +36,6 @@ right N k = get_or N.rights k 0
 
 abbrev pub parent : List ℕ → ℕ → ℕ
 parent parents k = get_or parents k 0
-
--- node k is one of the tree in these words, which has no more nodes than a block's tree can have
-pub record NodeIn (tree : List ℕ) (k : ℕ) : Type 0 where
-  pub node : k < nodes_held tree
-  pub few : nodes_held tree ≤ max_nodes
 
 -- gates of a block here, at most: one more than a file's
 abbrev pub most_gates : ℕ
@@ -100,8 +96,8 @@ pub record Plan : Type 0 where
   pub parents : List ℕ
   pub heads : ℕ → ℕ → Head
 
--- the plan in the words of a block and of a tree
-abbrev pub plan : List ℕ → List ℕ → Plan
+-- the plan in the words of a block and in a tree
+abbrev pub plan : List ℕ → StoredTree → Plan
 plan block tree =
     record {
       gate_count = gates_held block;

@@ -5,6 +5,7 @@ use Rattle.planting.specs.Copy.{max_nodes}
 use Rattle.parts.specs.Nodes.{Nodes}
 use Rattle.optimum.specs.Head.{Head, no_head, best_of, beside, Item, turn, item}
 use Rattle.words.specs.View.{view}
+use Rattle.planting.specs.declared.tree.Tree.{Tree}
 use Rattle.planting.specs.TreeWords.{tree_nodes, tree_parents}
 use Rattle.ties.specs.Code.{of_key, key_of}
 use Rattle.heads.specs.Plan.{node_count, kind, left, gate, right, parent, most_gain, Shaped}
@@ -149,20 +150,20 @@ pub record Renewed (N : Nodes) (parents : List ℕ) (G H H' : Stored) (j i : ℕ
   pub lent : Lent N G H'
   pub still : (k : ℕ) → k < node_count N → k ≢ parent parents i → (k ≢ j → Local N G H k) → Local N G H' k
 
--- The same over the words of a tree and of heads.
-pub record CanMake (tree words : List ℕ) (k : ℕ) : Type 0 where
+-- The same over a tree and the words of heads.
+pub record CanMake (tree : Tree) (words : List ℕ) (k : ℕ) : Type 0 where
   pub made : Made (tree_nodes tree) (gate_heads words) (node_heads words) k
 
-pub record CanWalk (tree words : List ℕ) (i : ℕ) : Type 0 where
+pub record CanWalk (tree : Tree) (words : List ℕ) (i : ℕ) : Type 0 where
   pub walkable : Walkable (tree_nodes tree) (gate_heads words) (node_heads words) i
 
-pub record WalkEnds (tree words : List ℕ) (i j : ℕ) : Type 0 where
+pub record WalkEnds (tree : Tree) (words : List ℕ) (i j : ℕ) : Type 0 where
   pub ended : Ended (tree_nodes tree) (gate_heads words) (node_heads words) i j
 
-pub record CanRenew (tree words : List ℕ) (j i : ℕ) : Type 0 where
+pub record CanRenew (tree : Tree) (words : List ℕ) (j i : ℕ) : Type 0 where
   pub renewable : Renewable (tree_nodes tree) (tree_parents tree) (gate_heads words) (node_heads words) j i
 
 -- no head of a gate has been written
-pub record NodesRenewed (tree words words' : List ℕ) (j i : ℕ) : Type 0 where
+pub record NodesRenewed (tree : Tree) (words words' : List ℕ) (j i : ℕ) : Type 0 where
   pub gates : gate_heads words' ≡ gate_heads words
   pub renewed : Renewed (tree_nodes tree) (tree_parents tree) (gate_heads words) (node_heads words) (node_heads words') j i

@@ -5,31 +5,31 @@ ghost use Rattle.planting.specs.TreeWords.{tree_nodes};
 ghost use Rattle.heads.specs.Stored.{CanMake, CanRenew, NodesRenewed, NodeWritten, gate_heads, node_heads, head_below};
 
 use crate::head_words::HeadWords;
-use crate::store::{gate_entry, index, node_entry, write_node};
-use crate::tree::{gate_at, kind_at, left_at, parent_at, right_at};
-use planting::tree_words::TreeWords;
+use crate::store::{gate_entry, node_entry, write_node};
+use planting::tree::{Kind, Tree};
 use ties::{Head, beside, best_of, none};
 
 // The head that the stored heads just below node i make.
-fn head_below(i: usize, tree: &TreeWords, heads: &HeadWords) -> Head
+fn head_below(i: usize, tree: &Tree, heads: &HeadWords) -> Head
     requires { CanMake tree.now heads.now i }
     ensures { head_of result ≡ head_below (tree_nodes tree.now) (gate_heads heads.now) (node_heads heads.now) i }
 {
-    let kind = kind_at(tree, i);
-    if kind == 0 {
-        return none();
+    match tree.kind_at(i) {
+        Kind::Wire { .. } => none(),
+        Kind::Series { left, gate, right } => best_of(
+            node_entry(heads, left as usize),
+            gate_entry(heads, gate as usize),
+            node_entry(heads, right as usize),
+        ),
+        Kind::Parallel { left, right } => beside(
+            node_entry(heads, left as usize),
+            node_entry(heads, right as usize),
+        ),
     }
-    let left = node_entry(heads, left_at(tree, i));
-    let right = node_entry(heads, right_at(tree, i));
-    if kind == 1 {
-        let gate = gate_entry(heads, index(gate_at(tree, i)));
-        return best_of(left, gate, right);
-    }
-    beside(left, right)
 }
 
 // Renews the head of node i from the stored heads just below it.
-pub fn renew(i: usize, tree: &TreeWords, heads: &mut HeadWords)
+pub fn renew(i: usize, tree: &Tree, heads: &mut HeadWords)
     requires { CanMake tree.now heads.old i }
     ensures { NodeWritten heads.old heads.new i (head_below (tree_nodes tree.now) (gate_heads heads.old) (node_heads heads.old) i) }
 {
@@ -38,14 +38,14 @@ pub fn renew(i: usize, tree: &TreeWords, heads: &mut HeadWords)
 }
 
 // Renews the heads from node j along the parents up to node i.
-pub fn renew_up(j: usize, i: usize, tree: &TreeWords, heads: &mut HeadWords)
+pub fn renew_up(j: usize, i: usize, tree: &Tree, heads: &mut HeadWords)
     requires { CanRenew tree.now heads.old j i }
     ensures { NodesRenewed tree.now heads.old heads.new j i }
 {
     let mut k = j;
     while k < i {
         renew(k, tree, heads);
-        k = parent_at(tree, k);
+        k = tree.parent_at(k);
     }
     renew(i, tree, heads);
 }

@@ -8,7 +8,7 @@ ghost use Rattle.heads.specs.Stored.{GateRoom};
 ghost use Rattle.heads.specs.GateHeads.{GateAdded, GatesUnslowed};
 
 use crate::head_words::HeadWords;
-use crate::store::{index, write_gate};
+use crate::store::write_gate;
 use blockwords::{BlockWords, gate_count, input_of, step_count, step_drop, step_width};
 use ties::{Head, keyed, none, rank};
 
@@ -59,27 +59,22 @@ pub fn gate_give_out(
     requires { (g < gates_held block.now) × StepsHeld block.now × (g < length increases.old) × (get_or increases.old g 0 + w < 2 ^ 32) × GateRoom heads.old g }
     ensures { GateAdded (heads_of block.now) increases.old increases.new heads.old heads.new g w }
 {
-    let at = index(g);
+    let at = g as usize;
     let more = increases[at] + w;
     increases[at] = more;
-    let head = gate_head(g, more, block);
-    write_gate(heads, at, head);
+    write_gate(heads, at, gate_head(g, more, block));
 }
 
 // Puts the increases of the gates to 0, and stores the heads that the gates then have.
 pub fn unslowed_heads(block: &BlockWords, increases: &mut [u32], heads: &mut HeadWords)
     requires steps_held { StepsHeld block.now }
     requires block_in_bounds { gates_held block.now ≤ length increases.old }
-    requires by_index { (g : ℕ) → g < gates_held block.now → GateRoom heads.old g }
+    requires heads_there { (g : ℕ) → g < gates_held block.now → GateRoom heads.old g }
     ensures { GatesUnslowed (heads_of block.now) (gates_held block.now) increases.new heads.old heads.new }
 {
-    let n = gate_count(block);
-    let mut g: u32 = 0;
-    while g < n {
-        let at = index(g);
+    for g in 0..gate_count(block) {
+        let at = g as usize;
         increases[at] = 0;
-        let head = gate_head(g, 0, block);
-        write_gate(heads, at, head);
-        g += 1;
+        write_gate(heads, at, gate_head(g, 0, block));
     }
 }

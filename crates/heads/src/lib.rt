@@ -5,5 +5,4 @@ pub mod below;
 pub mod gate;
 pub mod head_words;
 pub mod store;
-pub mod tree;
 pub mod way;

@@ -6,13 +6,6 @@ ghost use Rattle.heads.specs.Stored.{GateRoom, NodeRoom, NodeWritten, GateWritte
 use crate::head_words::{FIRST_NODE, HEAD_WORDS, HeadWords, KEY, WIDTH};
 use ties::{Head, gain_in};
 
-// A stored number as an index.
-pub fn index(x: u32) -> usize
-    ensures { result ≡ x }
-{
-    x as usize
-}
-
 // The head at entry e.
 fn read_entry(heads: &HeadWords, e: usize) -> Head
     requires { e < head_entries }

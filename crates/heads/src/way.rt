@@ -6,9 +6,8 @@ ghost use Rattle.planting.specs.TreeWords.{tree_nodes};
 ghost use Rattle.heads.specs.Stored.{CanMake, CanWalk, WalkEnds, gate_heads, node_heads, next_down};
 
 use crate::head_words::HeadWords;
-use crate::store::{gate_entry, index, node_entry};
-use crate::tree::{gate_at, kind_at, left_at, right_at};
-use planting::tree_words::TreeWords;
+use crate::store::{gate_entry, node_entry};
+use planting::tree::{Kind, Tree};
 use ties::{Head, leads};
 
 // Of the numbers l, m and r, that of the head that leads.
@@ -28,23 +27,27 @@ fn leading(left: Head, gate: Head, right: Head, l: usize, m: usize, r: usize) ->
 }
 
 // The child of series node i that gets its ticks; node i itself where its gate gets them, or where it is no series node.
-fn next_down(i: usize, tree: &TreeWords, heads: &HeadWords) -> usize
+fn next_down(i: usize, tree: &Tree, heads: &HeadWords) -> usize
     requires { CanMake tree.now heads.now i }
     ensures { result ≡ next_down (tree_nodes tree.now) (gate_heads heads.now) (node_heads heads.now) i }
 {
-    if kind_at(tree, i) != 1 {
+    let Kind::Series { left, gate, right } = tree.kind_at(i) else {
         return i;
-    }
-    let l = left_at(tree, i);
-    let r = right_at(tree, i);
-    let left = node_entry(heads, l);
-    let gate = gate_entry(heads, index(gate_at(tree, i)));
-    let right = node_entry(heads, r);
-    leading(left, gate, right, l, i, r)
+    };
+    let l = left as usize;
+    let r = right as usize;
+    leading(
+        node_entry(heads, l),
+        gate_entry(heads, gate as usize),
+        node_entry(heads, r),
+        l,
+        i,
+        r,
+    )
 }
 
 // The node at the end of the way down from node i.
-pub fn descend(i: usize, tree: &TreeWords, heads: &HeadWords) -> usize
+pub fn descend(i: usize, tree: &Tree, heads: &HeadWords) -> usize
     requires { CanWalk tree.now heads.now i }
     ensures { WalkEnds tree.now heads.now i result }
 {

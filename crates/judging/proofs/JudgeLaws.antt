@@ -21,7 +21,7 @@ use Rattle.model.proofs.SameDelays.{source_same}
 use Rattle.model.proofs.Slack.{entered}
 use Rattle.model.proofs.Source.{Entered, source_attained, source_greatest}
 use Rattle.blockfile.specs.Held.{GateArrays, WireArrays}
-use Rattle.gains.specs.Steps.{WidthsLent, Held, LowestExceeding}
+use Rattle.gains.specs.Steps.{WidthsLent, Held}
 use Rattle.gains.specs.Activities.{InputActivities}
 use Rattle.gains.specs.Savings.{Earnable, ListSaving}
 use Rattle.gains.proofs.Held.{held_lent}
@@ -59,22 +59,19 @@ module _ {file : List ℕ} {n m arrival deadline activity : ℕ} {G : GateArrays
     long_enough : (p : ℕ) → ¬ ((p ≡ gate_count B) × (length x < gate_count B))
     long_enough p s = omega (arith, s.1, count h)
 
-    pub lowest_refused : (g : ℕ) → g < n → LowestExceeding B (take n x) n g → AnswersJudge file x (record { answer = refusal 13 g; memory = x })
-    lowest_refused g l e =
+    pub lowest_refused : (g : ℕ) → Lowest (Exceeds B (take n x)) g → AnswersJudge file x (record { answer = refusal 13 g; memory = x })
+    lowest_refused g low =
         well_formed B h.well
-        (passes long_enough (fits g (subst (λ (y : List ℕ). Lowest (Exceeds B y) g) judged_is (e.lowest l)) refl))
+        (passes long_enough (fits g (subst (λ (y : List ℕ). Lowest (Exceeds B y) g) judged_is low) refl))
 
-    none_exceeds : (r : ℕ) → n ≤ r → LowestExceeding B (take n x) n r → (g : ℕ) → ¬ (Exceeds B (take n x) g)
-    none_exceeds r l e = e.none (omega (arith, e.within))
-
-    within_widths : (r : ℕ) → n ≤ r → LowestExceeding B (take n x) n r → (g : ℕ) → g < n → get_or x g 0 ≤ widths (gate B g).steps
-    within_widths r l e g b =
+    within_widths : ((g : ℕ) → ¬ (Exceeds B (take n x) g)) → (g : ℕ) → g < n → get_or x g 0 ≤ widths (gate B g).steps
+    within_widths none g b =
         ⊎_elim (λ (k : get_or x g 0 ≤ widths (gate B g).steps). k)
-        (λ (k : widths (gate B g).steps < get_or x g 0). absurd (none_exceeds r l e g (omega (arith, count h), rw (get_or-take n x g 0 b) k)))
+        (λ (k : widths (gate B g).steps < get_or x g 0). absurd (none g (omega (arith, count h), rw (get_or-take n x g 0 b) k)))
         (le_or_lt (get_or x g 0) (widths (gate B g).steps))
 
-    pub lasting : (r : ℕ) → n ≤ r → LowestExceeding B (take n x) n r → Lasting n m order W.sources W.targets W.delays G.delays x
-    lasting r l e =
+    pub lasting : ((g : ℕ) → ¬ (Exceeds B (take n x) g)) → Lasting n m order W.sources W.targets W.delays G.delays x
+    lasting none =
         record {
           lent = the_lent h;
           some = some h;
@@ -88,7 +85,7 @@ module _ {file : List ℕ} {n m arrival deadline activity : ℕ} {G : GateArrays
               λ (g : ℕ) (b : g < n).
               omega (
                 arith,
-                within_widths r l e g b,
+                within_widths none g b,
                 widths_most ((the_limits h).gate_limits g),
                 delay_most file n m arrival deadline activity G W h.well.end h.well.reads g b,
               );
@@ -126,24 +123,24 @@ module _ {file : List ℕ} {n m arrival deadline activity : ℕ} {G : GateArrays
         }
 
     -- some path is not in time
-    pub late_refused : (r t : ℕ) → n ≤ r → LowestExceeding B (take n x) n r → Lasts n m W.sources W.targets W.delays G.delays x t
+    pub late_refused : (t : ℕ) → ((g : ℕ) → ¬ (Exceeds B (take n x) g)) → Lasts n m W.sources W.targets W.delays G.delays x t
         → deadline < arrival + t
         → AnswersJudge file x (record { answer = refusal 14 0; memory = x })
-    late_refused r t l e lasts late =
+    late_refused t none lasts late =
         well_formed B h.well
         (passes long_enough
-        (passes (λ (g : ℕ) (low : Lowest (Exceeds B judged) g). none_exceeds r l e g (subst (λ (y : List ℕ). Exceeds B y g) (sym judged_is) low.holds))
+        (passes (λ (g : ℕ) (low : Lowest (Exceeds B judged) g). none g (subst (λ (y : List ℕ). Exceeds B y g) (sym judged_is) low.holds))
         (fits 0 (refl, (t, (longest_is t lasts).attained, late)) refl)))
 
     -- every path is in time, and the saving is the list's
-    pub in_time_accepted : (r t saved : ℕ) → n ≤ r → LowestExceeding B (take n x) n r → Lasts n m W.sources W.targets W.delays G.delays x t
+    pub in_time_accepted : (t saved : ℕ) → ((g : ℕ) → ¬ (Exceeds B (take n x) g)) → Lasts n m W.sources W.targets W.delays G.delays x t
         → arrival + t ≤ deadline
         → saved ≡ saving B (take n x)
         → AnswersJudge file x (record { answer = accepted (saved ∷ []); memory = x })
-    in_time_accepted r t saved l e lasts in_time s =
+    in_time_accepted t saved none lasts in_time s =
         well_formed B h.well
         (passes long_enough
-        (passes (λ (g : ℕ) (low : Lowest (Exceeds B judged) g). none_exceeds r l e g (subst (λ (y : List ℕ). Exceeds B y g) (sym judged_is) low.holds))
+        (passes (λ (g : ℕ) (low : Lowest (Exceeds B judged) g). none g (subst (λ (y : List ℕ). Exceeds B y g) (sym judged_is) low.holds))
         (passes
         (λ (p : ℕ) (late : (p ≡ 0) × PathNotInTime B judged).
         let path = late.1 in

@@ -24,9 +24,8 @@ pub fn judge_held(block: &HeldBlock, increases: &[u32]) -> Result<u64, Refusal>
     if increases.len() < n {
         return Err(Refusal::Room { needed: n });
     }
-    let g = lowest_exceeding(n, &block.counts, &block.step_widths, increases);
-    if g < n {
-        return Err(Refusal::Widths { gate: g });
+    if let Some(gate) = lowest_exceeding(n, &block.counts, &block.step_widths, increases) {
+        return Err(Refusal::Widths { gate });
     }
     let longest = longest_with(block, increases);
     let arrival = block.arrival;

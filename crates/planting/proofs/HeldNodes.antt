@@ -1,54 +1,78 @@
--- The nodes that a tree has by its first word are those planted: they agree with the arrays that its words hold (`held_planted`).
+-- The nodes that a tree has by its count are those planted: they agree with the arrays that its nodes hold (`held_planted`).
 -- Assumes nothing.
 use mathlib.Core.Path.{◌≡◌, sym, ◌∙◌}
 use mathlib.Core.Logic.{◌⊎◌, inl, inr}
-use mathlib.Core.List.{List}
 use Prim.Native.Nat.{ℕ, ◌-◌, ◌≤◌, ◌<◌}
 use native.Mathlib.Omega.{arith}
 use lib.ListN.{length, get_or, get_or-eq_default}
 use Rattle.lists.proofs.Compare.{le_or_lt}
-use Rattle.words.specs.View.{view}
-use Rattle.words.proofs.Views.{length_view, at_view}
-use Rattle.parts.specs.Nodes.{Tree}
+use Rattle.parts.specs.Nodes.{Tree as NodeTree}
 use Rattle.parts.proofs.Nodes.{SameNode}
 use Rattle.planting.specs.Copy.{Plot}
 use Rattle.planting.specs.Planted.{parent, Planted}
-use Rattle.planting.specs.TreeWords.{room, plot_of, nodes_held, tree_nodes, tree_parents}
+use Rattle.planting.specs.declared.tree.Node.{Node}
+use Rattle.planting.specs.declared.tree.Tree.{Tree}
+use Rattle.planting.specs.TreeWords.{plot_of, nodes_held, tree_nodes, tree_parents, no_node, number_of, left_of, gate_of, right_of, column, NodeIn, KindIs}
+use Rattle.planting.proofs.Columns.{length_column, at_column}
 use Rattle.planting.proofs.Agreeing.{same_planted}
 
 -- the nodes that the tree has, with their parents
-abbrev pub held_plot : List ℕ → Plot
+abbrev pub held_plot : Tree → Plot
 held_plot tree = record { nodes = tree_nodes tree; parents = tree_parents tree }
 
-module _ (tree : List ℕ) where
-  -- as many nodes as the first word says
+module _ (tree : Tree) where
+  -- as many nodes as the count says
   pub kinds_held : length (tree_nodes tree).kinds ≡ nodes_held tree
   unfolding tree_nodes
-  kinds_held = length_view 1 5 (nodes_held tree) tree
+  kinds_held = length_column (λ n. number_of n.kind) (nodes_held tree) tree.nodes
 
-module _ (tree : List ℕ) {t : Tree} {c : ℕ} (some : 0 < c) (p : Planted t c (plot_of tree)) where
-  -- its top's parent has a number, so it has room
-  planted_room : c ≤ room tree
+  module _ (k : ℕ) (n : NodeIn tree k) where
+    pub kind_read : KindIs (tree_nodes tree) k (get_or tree.nodes k no_node).kind
+    unfolding tree_nodes
+    kind_read =
+        record {
+          number = sym (at_column (λ m. number_of m.kind) (nodes_held tree) tree.nodes k n.node);
+          left = sym (at_column (λ m. left_of m.kind) (nodes_held tree) tree.nodes k n.node);
+          gate = sym (at_column (λ m. gate_of m.kind) (nodes_held tree) tree.nodes k n.node);
+          right = sym (at_column (λ m. right_of m.kind) (nodes_held tree) tree.nodes k n.node);
+        }
+
+    pub parent_read : (get_or tree.nodes k no_node).parent ≡ get_or (tree_parents tree) k 0
+    unfolding tree_parents
+    parent_read = sym (at_column (λ m. m.parent) (nodes_held tree) tree.nodes k n.node)
+
+module _ (tree : Tree) {t : NodeTree} {c : ℕ} (some : 0 < c) (p : Planted t c (plot_of tree)) where
+  -- its top's parent has a number, so it is there
+  planted_there : c ≤ length tree.nodes
   unfolding plot_of
-  planted_room = go (le_or_lt (room tree) (c - 1))
+  planted_there = go (le_or_lt (length tree.nodes) (c - 1))
     where
-      go : (room tree ≤ c - 1) ⊎ (c - 1 < room tree) → c ≤ room tree
+      go : (length tree.nodes ≤ c - 1) ⊎ (c - 1 < length tree.nodes) → c ≤ length tree.nodes
       go (inl l) =
-          let none : get_or (view 5 5 (room tree) tree) (c - 1) 0 ≡ 0 = get_or-eq_default (view 5 5 (room tree) tree) 0 (rw (length_view 5 5 (room tree) tree) l) in
+          let parents = column (λ n. n.parent) (length tree.nodes) tree.nodes in
+          let none : get_or parents (c - 1) 0 ≡ 0 = get_or-eq_default parents 0 (rw (length_column (λ n. n.parent) (length tree.nodes) tree.nodes) l) in
           absurd (omega (arith, p.top_parent, none))
       go (inr l) = omega arith
 
   module _ (held : nodes_held tree ≡ c) where
-    same : (i k : ℕ) → k < c → get_or (view i 5 (nodes_held tree) tree) k 0 ≡ get_or (view i 5 (room tree) tree) k 0
-    same i k l = at_view i 5 (nodes_held tree) tree k (omega arith) ∙ sym (at_view i 5 (room tree) tree k (omega (arith, planted_room)))
+    same : (f : Node → ℕ) (k : ℕ) → k < c → get_or (column f (nodes_held tree) tree.nodes) k 0 ≡ get_or (column f (length tree.nodes) tree.nodes) k 0
+    same f k l =
+        at_column f (nodes_held tree) tree.nodes k (omega arith)
+        ∙ sym (at_column f (length tree.nodes) tree.nodes k (omega (arith, planted_there)))
 
     held_node : (k : ℕ) → k < c → SameNode (plot_of tree).nodes (tree_nodes tree) k
     unfolding plot_of tree_nodes
-    held_node k l = record { kind = same 1 k l; left = same 2 k l; gate = same 3 k l; right = same 4 k l }
+    held_node k l =
+        record {
+          kind = same (λ n. number_of n.kind) k l;
+          left = same (λ n. left_of n.kind) k l;
+          gate = same (λ n. gate_of n.kind) k l;
+          right = same (λ n. right_of n.kind) k l;
+        }
 
     held_parent : (k : ℕ) → k < c → parent (held_plot tree) k ≡ parent (plot_of tree) k
     unfolding plot_of tree_parents
-    held_parent = same 5
+    held_parent = same (λ n. n.parent)
 
     pub held_planted : Planted t c (held_plot tree)
     held_planted = same_planted (held_plot tree) some held_node held_parent p

@@ -1,55 +1,83 @@
--- A tree in one array of words: how many nodes it has, then five words a node: its kind, its left child, its gate (of a wire: its delay), its right child, its parent.
-use Rattle.std.specs.Prelude.{cond, List, ℕ, ◌+◌, ◌*◌, ltb, length, get_or, set}
-use Rattle.words.specs.View.{view}
+-- A tree as it is stored: how many nodes it has, and the nodes, each with what it is and its parent. What it holds as arrays, an entry a node: its kind, its left child, its gate (of a wire: its delay), its right child, its parent.
+use Rattle.std.specs.Prelude.{◌≡◌, List, ℕ, ◌-◌, ◌≤◌, ◌<◌, length, get_or, set}
+use Rattle.lists.specs.Over.{build}
 use Rattle.parts.specs.Nodes.{Nodes}
-use Rattle.planting.specs.Copy.{Plot, nodes_in, plot, max_nodes}
+use Rattle.planting.specs.Copy.{Plot, nodes_in, put, max_nodes}
+use Rattle.planting.specs.declared.tree.Kind.{Kind}
+use Rattle.planting.specs.declared.tree.Kind.TheVariants.{Wire, Series, Parallel}
+use Rattle.planting.specs.declared.tree.Node.{Node}
+use Rattle.planting.specs.declared.tree.Tree.{Tree}
 
--- the words of a node
-abbrev pub node_words : ℕ
-node_words = 5
+-- a kind in numbers: 0 is a wire, 1 a series node, 2 a parallel node
+abbrev pub number_of : Kind → ℕ
+number_of (Wire d) = 0
+number_of (Series l g r) = 1
+number_of (Parallel l r) = 2
 
--- the words of a tree
-abbrev pub tree_words : ℕ
-tree_words = 1 + max_nodes * node_words
+abbrev pub left_of : Kind → ℕ
+left_of (Wire d) = 0
+left_of (Series l g r) = l
+left_of (Parallel l r) = l
 
--- room for all nodes, where the words are all there; otherwise none
-unfoldable pub room : List ℕ → ℕ
-room tree = cond (ltb (length tree) tree_words) 0 max_nodes
+abbrev pub gate_of : Kind → ℕ
+gate_of (Wire d) = d
+gate_of (Series l g r) = g
+gate_of (Parallel l r) = 0
 
--- the arrays that the words hold, whatever the first word says
-unfoldable pub plot_of : List ℕ → Plot
-plot_of tree =
-    plot (view 1 5 (room tree) tree) (view 2 5 (room tree) tree) (view 3 5 (room tree) tree) (view 4 5 (room tree) tree) (view 5 5 (room tree) tree)
+abbrev pub right_of : Kind → ℕ
+right_of (Wire d) = 0
+right_of (Series l g r) = r
+right_of (Parallel l r) = r
+
+-- a node that is not there
+abbrev pub no_node : Node
+no_node = record { kind = Wire 0; parent = 0 }
+
+-- one number of each of the first nodes
+unfoldable pub column : (Node → ℕ) → ℕ → List Node → List ℕ
+column f count nodes = build count (λ (k : ℕ). f (get_or nodes k no_node))
+
+-- the arrays that so many nodes hold
+abbrev pub nodes_from : ℕ → List Node → Nodes
+nodes_from count nodes =
+    nodes_in (column (λ n. number_of n.kind) count nodes) (column (λ n. left_of n.kind) count nodes)
+    (column (λ n. gate_of n.kind) count nodes) (column (λ n. right_of n.kind) count nodes)
+
+abbrev pub parents_from : ℕ → List Node → List ℕ
+parents_from count nodes = column (λ n. n.parent) count nodes
+
+-- the arrays that all nodes hold, however many the tree has
+unfoldable pub plot_of : Tree → Plot
+plot_of tree = record { nodes = nodes_from (length tree.nodes) tree.nodes; parents = parents_from (length tree.nodes) tree.nodes }
 
 -- how many nodes the tree has
-abbrev pub nodes_held : List ℕ → ℕ
-nodes_held tree = get_or tree 0 0
+abbrev pub nodes_held : Tree → ℕ
+nodes_held tree = tree.count
 
 -- the nodes that the tree has
-unfoldable pub tree_nodes : List ℕ → Nodes
-tree_nodes tree =
-    nodes_in (view 1 5 (nodes_held tree) tree) (view 2 5 (nodes_held tree) tree) (view 3 5 (nodes_held tree) tree) (view 4 5 (nodes_held tree) tree)
+unfoldable pub tree_nodes : Tree → Nodes
+tree_nodes tree = nodes_from (nodes_held tree) tree.nodes
 
 -- their parents
-unfoldable pub tree_parents : List ℕ → List ℕ
-tree_parents tree = view 5 5 (nodes_held tree) tree
+unfoldable pub tree_parents : Tree → List ℕ
+tree_parents tree = parents_from (nodes_held tree) tree.nodes
 
--- one number of node c in the arrays
-abbrev pub kind_put : ℕ → ℕ → Plot → Plot
-kind_put c v A = plot (set A.nodes.kinds c v) A.nodes.lefts A.nodes.gates A.nodes.rights A.parents
+-- node k is one of the tree, which has no more nodes than a block's tree can have
+pub record NodeIn (tree : Tree) (k : ℕ) : Type 0 where
+  pub node : k < nodes_held tree
+  pub few : nodes_held tree ≤ max_nodes
 
-abbrev pub left_put : ℕ → ℕ → Plot → Plot
-left_put c v A = plot A.nodes.kinds (set A.nodes.lefts c v) A.nodes.gates A.nodes.rights A.parents
+-- node k is of this kind
+pub record KindIs (N : Nodes) (k : ℕ) (kind : Kind) : Type 0 where
+  pub number : number_of kind ≡ get_or N.kinds k 0
+  pub left : left_of kind ≡ get_or N.lefts k 0
+  pub gate : gate_of kind ≡ get_or N.gates k 0
+  pub right : right_of kind ≡ get_or N.rights k 0
 
-abbrev pub gate_put : ℕ → ℕ → Plot → Plot
-gate_put c v A = plot A.nodes.kinds A.nodes.lefts (set A.nodes.gates c v) A.nodes.rights A.parents
+-- node c is of this kind
+abbrev pub kind_put : ℕ → Kind → Nodes → Nodes
+kind_put c kind N = put c (number_of kind) (left_of kind) (gate_of kind) (right_of kind) N
 
-abbrev pub right_put : ℕ → ℕ → Plot → Plot
-right_put c v A = plot A.nodes.kinds A.nodes.lefts A.nodes.gates (set A.nodes.rights c v) A.parents
-
-abbrev pub parent_put : ℕ → ℕ → Plot → Plot
-parent_put c v A = plot A.nodes.kinds A.nodes.lefts A.nodes.gates A.nodes.rights (set A.parents c v)
-
--- node c written, without its parent
-abbrev pub node_put : ℕ → ℕ → ℕ → ℕ → ℕ → Plot → Plot
-node_put c kind left gate right A = right_put c right (gate_put c gate (left_put c left (kind_put c kind A)))
+-- node r is of this kind, the parent of the nodes just before l and just before r
+abbrev pub above_put : ℕ → Kind → ℕ → Plot → Plot
+above_put l kind r A = record { nodes = kind_put r kind A.nodes; parents = set (set A.parents (l - 1) r) (r - 1) r }

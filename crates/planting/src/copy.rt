@@ -1,12 +1,11 @@
-// A tree copied from node arrays into the words of a tree, an occurrence of a node a new node.
+// A tree copied from node arrays into a planted tree, an occurrence of a node a new node.
 ghost use Rattle.std.specs.Prelude.{◌≡◌, ◌+◌};
 ghost use Rattle.parts.specs.Nodes.{tree_of};
 ghost use Rattle.planting.specs.Copy.{nodes_in, nodes_of, copied, Readable, Room};
 ghost use Rattle.planting.specs.TreeWords.{plot_of};
 
 use crate::ReducedNumbers;
-use crate::node::{index, write_leaf, write_parent};
-use crate::tree_words::TreeWords;
+use crate::tree::Tree;
 
 // Copies the tree of node i of the arrays kind, left, gate, right to the nodes from c on. Answers the number of nodes then.
 pub(crate) fn copy(
@@ -15,7 +14,7 @@ pub(crate) fn copy(
     left: &ReducedNumbers,
     gate: &ReducedNumbers,
     right: &ReducedNumbers,
-    tree: &mut TreeWords,
+    tree: &mut Tree,
     c: usize,
 ) -> usize
     requires readable { Readable (nodes_in kind.now left.now gate.now right.now) i }
@@ -24,15 +23,15 @@ pub(crate) fn copy(
     ensures written { plot_of tree.new ≡ copied (tree_of (nodes_in kind.now left.now gate.now right.now) i) c (plot_of tree.old) }
 {
     if kind[i] == 0 {
-        write_leaf(tree, c, gate[i]);
+        tree.put_wire(c, gate[i]);
         return c + 1;
     }
-    let l = copy(index(left[i]), kind, left, gate, right, tree, c);
-    let r = copy(index(right[i]), kind, left, gate, right, tree, l);
+    let l = copy(left[i] as usize, kind, left, gate, right, tree, c);
+    let r = copy(right[i] as usize, kind, left, gate, right, tree, l);
     if kind[i] == 1 {
-        write_parent(tree, 1, l, gate[i], r);
+        tree.put_series(l, gate[i], r);
         return r + 1;
     }
-    write_parent(tree, 2, l, 0, r);
+    tree.put_parallel(l, r);
     r + 1
 }

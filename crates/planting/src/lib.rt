@@ -3,7 +3,7 @@
 
 mod copy;
 mod node;
-pub mod tree_words;
+pub mod tree;
 
 ghost use Rattle.std.specs.Prelude.{◌≡◌, ◌+◌};
 ghost use Rattle.parts.specs.Nodes.{tree_of};
@@ -13,8 +13,7 @@ ghost use Rattle.planting.specs.TreeWords.{plot_of, nodes_held};
 
 use copy::copy;
 use model::limits::{MAX_GATES, MAX_WIRES};
-use node::{write_leaf, write_parent, write_root};
-use tree_words::TreeWords;
+use tree::Tree;
 
 // Nodes of the tree that a reduction leaves, at most: a leaf for each wire, and two for each gate that goes.
 pub const MAX_REDUCED: usize = MAX_WIRES + MAX_GATES + MAX_GATES;
@@ -35,7 +34,7 @@ pub fn plant(
     left: &ReducedNumbers,
     gate: &ReducedNumbers,
     right: &ReducedNumbers,
-    tree: &mut TreeWords,
+    tree: &mut Tree,
 ) -> usize
     requires readable { Readable (nodes_in kind.now left.now gate.now right.now) i }
     requires room { Room (plot_of tree.old) (nodes_of (whole a (tree_of (nodes_in kind.now left.now gate.now right.now) i) b)) }
@@ -44,26 +43,26 @@ pub fn plant(
     ensures written { plot_of tree.new ≡ planted_in (whole a (tree_of (nodes_in kind.now left.now gate.now right.now) i) b) (plot_of tree.old) }
     ensures held { nodes_held tree.new ≡ result }
 {
-    write_leaf(tree, 0, 0);
+    tree.put_wire(0, 0);
     let l = copy(i, kind, left, gate, right, tree, 1);
-    write_leaf(tree, l, 0);
-    write_parent(tree, 1, l, b, l + 1);
-    write_parent(tree, 1, 1, a, l + 2);
-    write_root(tree, l + 3);
+    tree.put_wire(l, 0);
+    tree.put_series(l, b, l + 1);
+    tree.put_series(1, a, l + 2);
+    tree.put_root(l + 3);
     l + 3
 }
 
 // Plants gate g alone. Answers the number of nodes; the top is the last. Nodes beyond are as before.
-pub fn plant_lone(g: u32, tree: &mut TreeWords) -> usize
+pub fn plant_lone(g: u32, tree: &mut Tree) -> usize
     requires { Room (plot_of tree.old) 3 }
     ensures count { result ≡ 3 }
     ensures planted { Planted (lone g) result (plot_of tree.new) }
     ensures written { plot_of tree.new ≡ planted_in (lone g) (plot_of tree.old) }
     ensures held { nodes_held tree.new ≡ result }
 {
-    write_leaf(tree, 0, 0);
-    write_leaf(tree, 1, 0);
-    write_parent(tree, 1, 1, g, 2);
-    write_root(tree, 3);
+    tree.put_wire(0, 0);
+    tree.put_wire(1, 0);
+    tree.put_series(1, g, 2);
+    tree.put_root(3);
     3
 }

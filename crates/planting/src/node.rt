@@ -1,63 +1,95 @@
-// Nodes written into the words of a tree.
-ghost use Rattle.std.specs.Prelude.{◌≡◌, ◌+◌, ◌≤◌};
-ghost use Rattle.planting.specs.Copy.{with_leaf, with_parent, rooted, Room};
-ghost use Rattle.planting.specs.TreeWords.{plot_of, nodes_held, node_put, parent_put};
+// Nodes written into a tree, and read from it.
+ghost use Rattle.std.specs.Prelude.{◌≡◌, ◌+◌, ◌≤◌, get_or, length};
+ghost use Rattle.planting.specs.Copy.{max_nodes, with_leaf, with_parent, rooted, Room};
+ghost use Rattle.planting.specs.TreeWords.{plot_of, nodes_held, tree_nodes, tree_parents, above_put, NodeIn, KindIs};
 
-use crate::tree_words::{GATE, KIND, LEFT, NODE_WORDS, PARENT, RIGHT, TreeWords};
+use crate::MAX_NODES;
+use crate::tree::{Kind, Node, Tree};
 
-// A stored number as an index.
-pub(crate) fn index(x: u32) -> usize
-    ensures { result ≡ x }
-{
-    x as usize
-}
+#[tactic(auto, using(crate::proofs::Writing::within))]
+impl Tree {
+    // A tree of no node.
+    pub fn new() -> Tree
+        ensures held { nodes_held result ≡ 0 }
+        ensures long { length result.nodes ≡ max_nodes }
+    {
+        Tree {
+            count: 0,
+            nodes: [Node {
+                kind: Kind::Wire { delay: 0 },
+                parent: 0,
+            }; MAX_NODES],
+        }
+    }
 
-// Writes node c, without its parent.
-fn write_node(tree: &mut TreeWords, c: usize, kind: u32, left: u32, gate: u32, right: u32)
-    requires { Room (plot_of tree.old) (c + 1) }
-    ensures { plot_of tree.new ≡ node_put c kind left gate right (plot_of tree.old) }
-{
-    tree[c * NODE_WORDS + KIND] = kind;
-    tree[c * NODE_WORDS + LEFT] = left;
-    tree[c * NODE_WORDS + GATE] = gate;
-    tree[c * NODE_WORDS + RIGHT] = right;
-}
+    // What node i is.
+    pub fn kind_at(&self, i: usize) -> Kind
+        requires { NodeIn self.now i }
+        ensures { KindIs (tree_nodes self.now) i result }
+    {
+        self.nodes[i].kind
+    }
 
-// Writes the parent of node c.
-fn write_parent_of(tree: &mut TreeWords, c: usize, parent: u32)
-    requires { Room (plot_of tree.old) (c + 1) }
-    ensures { plot_of tree.new ≡ parent_put c parent (plot_of tree.old) }
-{
-    tree[c * NODE_WORDS + PARENT] = parent;
-}
+    // The parent of node i.
+    pub fn parent_at(&self, i: usize) -> usize
+        requires { NodeIn self.now i }
+        ensures { result ≡ get_or (tree_parents self.now) i 0 }
+    {
+        self.nodes[i].parent as usize
+    }
 
-// Writes node c, a wire of delay d.
-pub(crate) fn write_leaf(tree: &mut TreeWords, c: usize, d: u32)
-    requires { Room (plot_of tree.old) (c + 1) }
-    ensures { plot_of tree.new ≡ with_leaf c d (plot_of tree.old) }
-{
-    write_node(tree, c, 0, 0, d, 0);
-}
+    // Makes node c a wire of this delay.
+    pub(crate) fn put_wire(&mut self, c: usize, delay: u32)
+        requires { Room (plot_of self.old) (c + 1) }
+        ensures { plot_of self.new ≡ with_leaf c delay (plot_of self.old) }
+    {
+        self.nodes[c].kind = Kind::Wire { delay };
+    }
 
-// Writes node r, of kind x and gate m, the parent of the nodes just before l and just before r.
-pub(crate) fn write_parent(tree: &mut TreeWords, x: u32, l: usize, m: u32, r: usize)
-    requires room { Room (plot_of tree.old) (r + 1) }
-    requires le_l { 1 ≤ l }
-    requires l_bound { l + 1 ≤ r }
-    ensures { plot_of tree.new ≡ with_parent x l m r (plot_of tree.old) }
-{
-    write_node(tree, r, x, (l - 1) as u32, m, (r - 1) as u32);
-    write_parent_of(tree, l - 1, r as u32);
-    write_parent_of(tree, r - 1, r as u32);
-}
+    // Makes node r of this kind, and the parent of the nodes just before l and just before r.
+    fn put_above(&mut self, l: usize, kind: Kind, r: usize)
+        requires room { Room (plot_of self.old) (r + 1) }
+        requires le_l { 1 ≤ l }
+        requires l_bound { l + 1 ≤ r }
+        ensures { plot_of self.new ≡ above_put l kind r (plot_of self.old) }
+    {
+        self.nodes[r].kind = kind;
+        self.nodes[l - 1].parent = r as u32;
+        self.nodes[r - 1].parent = r as u32;
+    }
 
-// Makes c the number of nodes, and gives the last of them a parent's number that no node has.
-pub(crate) fn write_root(tree: &mut TreeWords, c: usize)
-    requires room { Room (plot_of tree.old) c }
-    requires le_c { 1 ≤ c }
-    ensures written { plot_of tree.new ≡ rooted c (plot_of tree.old) }
-    ensures held { nodes_held tree.new ≡ c }
-{
-    write_parent_of(tree, c - 1, c as u32);
-    tree[0] = c as u32;
+    // Makes node r the series of the nodes just before l and just before r, through this gate.
+    pub(crate) fn put_series(&mut self, l: usize, gate: u32, r: usize)
+        requires room { Room (plot_of self.old) (r + 1) }
+        requires le_l { 1 ≤ l }
+        requires l_bound { l + 1 ≤ r }
+        ensures { plot_of self.new ≡ with_parent 1 l gate r (plot_of self.old) }
+    {
+        let left = (l - 1) as u32;
+        let right = (r - 1) as u32;
+        self.put_above(l, Kind::Series { left, gate, right }, r);
+    }
+
+    // Puts the nodes just before l and just before r side by side, as node r.
+    pub(crate) fn put_parallel(&mut self, l: usize, r: usize)
+        requires room { Room (plot_of self.old) (r + 1) }
+        requires le_l { 1 ≤ l }
+        requires l_bound { l + 1 ≤ r }
+        ensures { plot_of self.new ≡ with_parent 2 l 0 r (plot_of self.old) }
+    {
+        let left = (l - 1) as u32;
+        let right = (r - 1) as u32;
+        self.put_above(l, Kind::Parallel { left, right }, r);
+    }
+
+    // Makes c the number of nodes, and gives the last of them a parent's number that no node has.
+    pub(crate) fn put_root(&mut self, c: usize)
+        requires room { Room (plot_of self.old) c }
+        requires le_c { 1 ≤ c }
+        ensures written { plot_of self.new ≡ rooted c (plot_of self.old) }
+        ensures held { nodes_held self.new ≡ c }
+    {
+        self.nodes[c - 1].parent = c as u32;
+        self.count = c;
+    }
 }

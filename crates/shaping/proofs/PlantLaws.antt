@@ -20,7 +20,8 @@ use Rattle.optimum.specs.BlockTree.{block_tree, lone_tree}
 use Rattle.planting.specs.Copy.{nodes_of, max_reduced, planted_in, max_nodes, Readable, Room}
 use Rattle.planting.specs.Planted.{as_tree, whole, lone}
 use Rattle.planting.specs.Planted as Planting
-use Rattle.planting.specs.TreeWords.{tree_words, plot_of, nodes_held}
+use Rattle.planting.specs.declared.tree.Tree.{Tree as StoredTree}
+use Rattle.planting.specs.TreeWords.{plot_of, nodes_held}
 use Rattle.planting.proofs.Agreeing.{rooted_readable}
 use Rattle.planting.proofs.Writing.{there_is_room}
 use Rattle.planting.proofs.Wires.{few_nodes}
@@ -29,19 +30,15 @@ use Rattle.slots.specs.declared.NotSeriesParallel.{NotSeriesParallel}
 use Rattle.shaping.specs.PlantedBlock.{Given, PlantedOrNot}
 use Rattle.shaping.proofs.Facts.{join, network, no_wire_twice}
 
--- There is room for any number of nodes up to the greatest.
-pub few_room : (tree : List ℕ) → tree_words ≤ length tree → (c : ℕ) → c ≤ max_nodes → Room (plot_of tree) c
-few_room tree long c h = there_is_room (record { long = long; within = h })
-
 -- The tree of a block of one gate is that gate: the ends of a part are different gates.
 pub lone_case : {B : Block} → gate_count B ≡ 1 → (fits : SeriesParallel B) → block_tree B fits ≡ lone_tree B
 lone_case single (Part.lone e none) = refl
 lone_case {B} single (built P w) = absurd ((part_ends P (first B) (last B) w.part).differ (omega arith))
 
 -- Where the block is not series-parallel, the error is passed on.
-pub none_planted : {B : Block} {e : NotSeriesParallel} (r : Result ℕ NotSeriesParallel) (words : List ℕ) → IsErrAnd r (λ x. x ≡ e) → NotSeriesParallelAt B e.gate → PlantedOrNot B r words words
-none_planted (Ok c) words is a = absurd is
-none_planted {B} (Err x) words is a = (subst (λ y. NotSeriesParallelAt B y.gate) (sym is) a, refl)
+pub none_planted : {B : Block} {e : NotSeriesParallel} (r : Result ℕ NotSeriesParallel) (tree : StoredTree) → IsErrAnd r (λ x. x ≡ e) → NotSeriesParallelAt B e.gate → PlantedOrNot B r tree tree
+none_planted (Ok c) tree is a = absurd is
+none_planted {B} (Err x) tree is a = (subst (λ y. NotSeriesParallelAt B y.gate) (sym is) a, refl)
 
 module _ {B : Block} {n m : ℕ} {sources targets wire_delays : List ℕ} (given : Given B n m sources targets wire_delays) where
   pub given_network : Network B
@@ -63,13 +60,13 @@ module _ {B : Block} {n m : ℕ} {sources targets wire_delays : List ℕ} (given
   root_few {T} {t} r a b = omega (arith, few_nodes B (tree_of T t) r.whole (join B given.limits given.sound), given.limits.gates_most)
 
   -- The root can be copied, and there is room for its tree between two gates.
-  pub root_asked : {T : Nodes} {t k : ℕ} (tree : List ℕ) → Rooted B T t k → length T.kinds ≡ max_reduced → tree_words ≤ length tree → (a b : ℕ) → Readable T t × Room (plot_of tree) (nodes_of (whole a (tree_of T t) b))
+  pub root_asked : {T : Nodes} {t k : ℕ} (tree : StoredTree) → Rooted B T t k → length T.kinds ≡ max_reduced → max_nodes ≤ length tree.nodes → (a b : ℕ) → Readable T t × Room (plot_of tree) (nodes_of (whole a (tree_of T t) b))
   root_asked {T} {t} tree r full long a b =
-      (rooted_readable r full, few_room tree long (nodes_of (whole a (tree_of T t) b)) (root_few r a b))
+      (rooted_readable r full, there_is_room tree (nodes_of (whole a (tree_of T t) b)) long (root_few r a b))
 
   -- What is planted is the block's tree.
-  pub lone_planted : (before words : List ℕ) {c : ℕ} → (gate_count B ≡ 1) × SeriesParallel B → c ≡ 3 → Planting.Planted (lone 0) c (plot_of words) → plot_of words ≡ planted_in (lone 0) (plot_of before) → nodes_held words ≡ c → PlantedOrNot B (Ok c) before words
-  lone_planted before words (single, fits) count planted written held =
+  pub lone_planted : (before after : StoredTree) {c : ℕ} → (gate_count B ≡ 1) × SeriesParallel B → c ≡ 3 → Planting.Planted (lone 0) c (plot_of after) → plot_of after ≡ planted_in (lone 0) (plot_of before) → nodes_held after ≡ c → PlantedOrNot B (Ok c) before after
+  lone_planted before after (single, fits) count planted written held =
       record { fits = fits; tree = lone 0; is_tree = sym (lone_case single fits); planted = planted; written = written; held = held; some = omega arith; few = omega arith }
 
   root_is_tree : {T : Nodes} {t k : ℕ} (r : Rooted B T t k) → as_tree (whole 0 (tree_of T t) (n - 1)) ≡ block_tree B (built _ r.whole)
@@ -77,8 +74,8 @@ module _ {B : Block} {n m : ℕ} {sources targets wire_delays : List ℕ} (given
       ap (λ b. as_tree (whole 0 (tree_of T t) (b - 1))) (sym given.wired.gates)
       ∙ whole_converted B (no_wire_twice B given.limits given.sound) (tree_of T t) r.weighed
 
-  pub root_planted : {T : Nodes} {t k : ℕ} (before words : List ℕ) {c : ℕ} → Rooted B T t k → c ≡ nodes_of (whole 0 (tree_of T t) (n - 1)) → Planting.Planted (whole 0 (tree_of T t) (n - 1)) c (plot_of words) → plot_of words ≡ planted_in (whole 0 (tree_of T t) (n - 1)) (plot_of before) → nodes_held words ≡ c → PlantedOrNot B (Ok c) before words
-  root_planted {T} {t} before words r count planted written held =
+  pub root_planted : {T : Nodes} {t k : ℕ} (before after : StoredTree) {c : ℕ} → Rooted B T t k → c ≡ nodes_of (whole 0 (tree_of T t) (n - 1)) → Planting.Planted (whole 0 (tree_of T t) (n - 1)) c (plot_of after) → plot_of after ≡ planted_in (whole 0 (tree_of T t) (n - 1)) (plot_of before) → nodes_held after ≡ c → PlantedOrNot B (Ok c) before after
+  root_planted {T} {t} before after r count planted written held =
       record {
         fits = built _ r.whole;
         tree = whole 0 (tree_of T t) (n - 1);

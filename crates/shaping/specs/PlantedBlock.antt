@@ -1,4 +1,4 @@
--- What planting the tree of a block asks, and what it leaves in the words of a tree.
+-- What planting the tree of a block asks, and what it leaves in a tree.
 use Rattle.std.specs.Prelude.{◌≡◌, Result, Ok, Err, List, ℕ, ◌≤◌, ◌<◌, length}
 use Rattle.model.specs.Block.{Block}
 use Rattle.model.specs.Part.{SeriesParallel}
@@ -10,6 +10,7 @@ use Rattle.reduction.specs.Wired.{Wired}
 use Rattle.optimum.specs.BlockTree.{block_tree}
 use Rattle.planting.specs.Copy.{planted_in, max_nodes}
 use Rattle.planting.specs.Planted as Planting
+use Rattle.planting.specs.declared.tree.Tree.{Tree as StoredTree}
 use Rattle.planting.specs.TreeWords.{plot_of, nodes_held}
 use Rattle.slots.specs.declared.NotSeriesParallel.{NotSeriesParallel}
 
@@ -25,18 +26,18 @@ pub record WiresLong (m : ℕ) (sources targets wire_delays : List ℕ) : Type 0
   pub targets_long : m ≤ length targets
   pub delays_long : m ≤ length wire_delays
 
--- The block is series-parallel, and its tree stands in the first c nodes of the words, whose other nodes are as in `before`.
-pub record PlantedBlock (B : Block) (c : ℕ) (before words : List ℕ) : Type 0 where
+-- The block is series-parallel, and its tree stands in the first c nodes of `after`, whose other nodes are as in `before`.
+pub record PlantedBlock (B : Block) (c : ℕ) (before after : StoredTree) : Type 0 where
   pub fits : SeriesParallel B
   pub tree : Tree
   pub is_tree : Planting.as_tree tree ≡ block_tree B fits
-  pub planted : Planting.Planted tree c (plot_of words)
-  pub written : plot_of words ≡ planted_in tree (plot_of before)
-  pub held : nodes_held words ≡ c
+  pub planted : Planting.Planted tree c (plot_of after)
+  pub written : plot_of after ≡ planted_in tree (plot_of before)
+  pub held : nodes_held after ≡ c
   pub some : 0 < c
   pub few : c ≤ max_nodes
 
--- The block's tree stands in the words; or the block is not series-parallel, which the lowest gate that remains tells, and the words are as before.
-abbrev pub PlantedOrNot : Block → Result ℕ NotSeriesParallel → List ℕ → List ℕ → Type 0
-PlantedOrNot B (Ok c) before words = PlantedBlock B c before words
-PlantedOrNot B (Err e) before words = NotSeriesParallelAt B e.gate × (words ≡ before)
+-- The block's tree stands in `after`; or the block is not series-parallel, which the lowest gate that remains tells, and the tree is as before.
+abbrev pub PlantedOrNot : Block → Result ℕ NotSeriesParallel → StoredTree → StoredTree → Type 0
+PlantedOrNot B (Ok c) before after = PlantedBlock B c before after
+PlantedOrNot B (Err e) before after = NotSeriesParallelAt B e.gate × (after ≡ before)

@@ -1,15 +1,15 @@
-// The tree of a block's parts, planted in the words of a tree.
+// The tree of a block's parts, planted.
 ghost use Rattle.std.specs.Prelude.{◌≤◌, length};
 ghost use Rattle.model.specs.Block.{Block};
-ghost use Rattle.planting.specs.TreeWords.{tree_words};
+ghost use Rattle.planting.specs.Copy.{max_nodes};
 ghost use Rattle.shaping.specs.PlantedBlock.{Given, WiresLong, PlantedOrNot};
 
-use planting::tree_words::TreeWords;
+use planting::tree::Tree;
 use planting::{plant, plant_lone};
 use reduction::reduce_network;
 pub use slots::NotSeriesParallel;
 
-// The tree of a block of n gates and m wires, which stand in the arrays, planted in the words of a tree: answers its number of nodes, the last of which is the top. Nodes beyond are as before, and so are all words where the block is not series-parallel.
+// The tree of a block of n gates and m wires, which stand in the arrays, planted: answers its number of nodes, the last of which is the top. Nodes beyond are as before, and so is the whole tree where the block is not series-parallel.
 // Public for the crates above only: they have shown that the wires are those of a sound network.
 pub fn plant_block(
     n: usize,
@@ -17,11 +17,11 @@ pub fn plant_block(
     sources: &[u32],
     targets: &[u32],
     wire_delays: &[u32],
-    tree: &mut TreeWords,
+    tree: &mut Tree,
 ) -> Result<usize, NotSeriesParallel>
     requires given { (B : Block) × Given B n m sources.now targets.now wire_delays.now }
     requires wires_long { WiresLong m sources.now targets.now wire_delays.now }
-    requires tree_words_in_bounds { tree_words ≤ length tree.old }
+    requires nodes_long { max_nodes ≤ length tree.old.nodes }
     ensures planted { (B : Block) → Given B n m sources.now targets.now wire_delays.now → PlantedOrNot B result tree.old tree.new }
 {
     match reduce_network(n, m, sources, targets, wire_delays)? {

@@ -9,7 +9,7 @@ use blockwords::BlockWords;
 use handout::series_give_out;
 use heads::head_words::HeadWords;
 use heads::store::node_entry;
-use planting::tree_words::TreeWords;
+use planting::tree::Tree;
 use ties::gain_in;
 
 // Notes a run behind `count` pairs, joined to the last of them where the gain is the same. Answers how many pairs there are then.
@@ -40,7 +40,7 @@ pub fn spend_ticks(
     ticks: u32,
     steps: usize,
     block: &BlockWords,
-    tree: &TreeWords,
+    tree: &Tree,
     increases: &mut [u32],
     heads: &mut HeadWords,
     pair_widths: &mut [u32],

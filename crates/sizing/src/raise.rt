@@ -9,14 +9,13 @@ use crate::ticks::ticks_out;
 use blockwords::BlockWords;
 use heads::below::renew;
 use heads::head_words::HeadWords;
-use heads::tree::{kind_at, left_at, node_count, right_at};
-use planting::tree_words::TreeWords;
+use planting::tree::{Kind, Tree};
 
 // Raises the shorter side of node i, if it is a parallel node. `lengths` holds how long each part lasts with no increase.
 fn raise_sides(
     i: usize,
     block: &BlockWords,
-    tree: &TreeWords,
+    tree: &Tree,
     lengths: &[u32],
     increases: &mut [u32],
     heads: &mut HeadWords,
@@ -27,11 +26,11 @@ fn raise_sides(
     ensures still_standing { Standing (plan block.now tree.now) (state increases.new heads.new) i }
     ensures levelled { Levelled (plan block.now tree.now) lengths.now increases.old increases.new i }
 {
-    if kind_at(tree, i) < 2 {
+    let Kind::Parallel { left, right } = tree.kind_at(i) else {
         return;
-    }
-    let left = left_at(tree, i);
-    let right = right_at(tree, i);
+    };
+    let left = left as usize;
+    let right = right as usize;
     let left_length = lengths[left];
     let right_length = lengths[right];
     let more_left = right_length.saturating_sub(left_length);
@@ -43,7 +42,7 @@ fn raise_sides(
 // From no increase: the increases of the raised start, and the heads of all nodes with them.
 pub fn raise_and_fill(
     block: &BlockWords,
-    tree: &TreeWords,
+    tree: &Tree,
     lengths: &[u32],
     increases: &mut [u32],
     heads: &mut HeadWords,
@@ -53,7 +52,7 @@ pub fn raise_and_fill(
     requires tree_in_bounds { node_count (tree_nodes tree.now) ≤ length lengths.now }
     ensures { (d : ℕ → ℕ) → Lengths (tree_nodes tree.now) d lengths.now (node_count (tree_nodes tree.now)) → Raised (plan block.now tree.now) d (state increases.new heads.new) }
 {
-    for i in 0..node_count(tree) {
+    for i in 0..tree.count {
         raise_sides(i, block, tree, lengths, increases, heads);
         renew(i, tree, heads);
     }

@@ -9,13 +9,13 @@ use crate::raise::raise_and_fill;
 use blockwords::BlockWords;
 use heads::gate::unslowed_heads;
 use heads::head_words::HeadWords;
-use planting::tree_words::TreeWords;
+use planting::tree::Tree;
 
 // The increases of the raised start, and all heads with them.
 // Public for the crates above only: they have shown that the arrays hold a sound plan.
 pub fn start(
     block: &BlockWords,
-    tree: &TreeWords,
+    tree: &Tree,
     delays: &[u32],
     lengths: &mut [u32],
     increases: &mut [u32],

@@ -10,7 +10,7 @@ use blockwords::BlockWords;
 use handout::series_give_out;
 use heads::head_words::HeadWords;
 use heads::store::node_entry;
-use planting::tree_words::TreeWords;
+use planting::tree::Tree;
 use ties::{Head, gain_in};
 
 // How many ticks the next run has: as many as are left, at most the width of the head. None where no tick is left or there is no head.
@@ -30,7 +30,7 @@ pub fn ticks_out(
     i: usize,
     ticks: u32,
     block: &BlockWords,
-    tree: &TreeWords,
+    tree: &Tree,
     increases: &mut [u32],
     heads: &mut HeadWords,
 )

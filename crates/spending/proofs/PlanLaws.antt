@@ -7,6 +7,7 @@ use lib.ListN.{length, get_or}
 use Rattle.lists.specs.Sum.{sum}
 use Rattle.model.specs.Block.{Block}
 use Rattle.optimum.specs.BlockTree.{block_tree, increases}
+use Rattle.planting.specs.declared.tree.Tree.{Tree}
 use Rattle.planting.specs.TreeWords.{nodes_held, tree_nodes, tree_parents}
 use Rattle.blockwords.specs.Gathered.{Gathered}
 use Rattle.heads.specs.Plan.{Plan, plan}
@@ -19,7 +20,7 @@ use Rattle.sizing.specs.Pairs.{Curvable, Spent}
 use Rattle.spending.specs.TreeHeld.{TreeArrays, TreeHeld, tree_arrays, tree_plan}
 use Rattle.spending.proofs.TreeLaws.{sizable, curvable, list_is}
 
-module _ {B : Block} {n : ℕ} (tree : List ℕ) {counts step_widths drops inputs delays block : List ℕ} (h : TreeHeld B n (tree_arrays tree counts step_widths drops inputs delays))
+module _ {B : Block} {n : ℕ} (tree : Tree) {counts step_widths drops inputs delays block : List ℕ} (h : TreeHeld B n (tree_arrays tree counts step_widths drops inputs delays))
     (x : Gathered n counts step_widths drops inputs block) where
   abbrev arrays : TreeArrays
   arrays = tree_arrays tree counts step_widths drops inputs delays

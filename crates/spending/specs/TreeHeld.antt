@@ -11,6 +11,7 @@ use Rattle.model.specs.Refusal.{SoundNetwork}
 use Rattle.model.proofs.Limited.{BlockLimits}
 use Rattle.gains.specs.Savings.{ListSaving, most_of_gate}
 use Rattle.parts.specs.Nodes.{Nodes}
+use Rattle.planting.specs.declared.tree.Tree.{Tree}
 use Rattle.planting.specs.TreeWords.{tree_nodes, tree_parents}
 use Rattle.optimum.specs.Tree.{Below, zeros, longest}
 use Rattle.optimum.specs.BlockTree.{block_tree, start_of, increases, pairs_of}
@@ -30,7 +31,7 @@ pub record TreeArrays : Type 0 where
   pub inputs : List ℕ
   pub delays : List ℕ
 
-abbrev pub tree_arrays : List ℕ → List ℕ → List ℕ → List ℕ → List ℕ → List ℕ → TreeArrays
+abbrev pub tree_arrays : Tree → List ℕ → List ℕ → List ℕ → List ℕ → List ℕ → TreeArrays
 tree_arrays tree counts step_widths drops inputs delays =
     record {
       nodes = tree_nodes tree;

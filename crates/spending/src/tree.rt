@@ -9,11 +9,10 @@ use blockwords::BLOCK_WORDS;
 use blockwords::gathering::gather;
 use gains::saving::list_saving;
 use heads::head_words::ALL_HEADS;
-use heads::tree::node_count;
 use model::limits::{GateNumbers, MAX_PAIRS, StepNumbers};
 use ordering::marking::at;
 use planting::MAX_NODES;
-use planting::tree_words::TreeWords;
+use planting::tree::Tree;
 use saving_curve::count::count_off;
 use saving_curve::position::Curve;
 use sizing::curve::spend_ticks;
@@ -47,7 +46,7 @@ fn step_count(n: usize, counts: &[u32]) -> usize
 fn tree_runs(
     ticks: u32,
     n: u32,
-    tree: &TreeWords,
+    tree: &Tree,
     counts: &GateNumbers,
     step_widths: &StepNumbers,
     drops: &StepNumbers,
@@ -70,7 +69,7 @@ fn tree_runs(
     let saving = list_saving(n as usize, counts, step_widths, drops, inputs, &*increases);
     let steps = step_count(n as usize, counts);
     let pairs = spend_ticks(
-        node_count(tree) - 1,
+        tree.count - 1,
         ticks,
         steps,
         &block,
@@ -86,7 +85,7 @@ fn tree_runs(
 // The curve of the block: its pairs to the front of the two slices. The increases are scratch.
 pub fn tree_curve(
     n: u32,
-    tree: &TreeWords,
+    tree: &Tree,
     counts: &GateNumbers,
     step_widths: &StepNumbers,
     drops: &StepNumbers,
@@ -120,7 +119,7 @@ pub fn tree_curve(
 pub fn tree_increases(
     ticks: u32,
     n: u32,
-    tree: &TreeWords,
+    tree: &Tree,
     counts: &GateNumbers,
     step_widths: &StepNumbers,
     drops: &StepNumbers,

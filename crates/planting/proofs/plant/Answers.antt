@@ -5,37 +5,37 @@ use Rattle.planting.specs.Copy.{nodes_in}
 use Rattle.planting.proofs.Tops.{first_asked, tree_asked, last_asked, fits, inner_asked, outer_asked, root_asked, whole_done}
 use Rattle.planting.proofs.plant.Goals as goal
 
-pub write_leaf-requires : goal.write_leaf-requires
-write_leaf-requires c = first_asked (tree_of (nodes_in c.args.kind.now c.args.left.now c.args.gate.now c.args.right.now) c.args.i) c.args.a c.args.b c.requires.room
+pub put_wire-requires : goal.put_wire-requires
+put_wire-requires c = first_asked (tree_of (nodes_in c.args.kind.now c.args.left.now c.args.gate.now c.args.right.now) c.args.i) c.args.a c.args.b c.requires.room
 
 pub copy-l-requires : goal.copy-l-requires
-copy-l-requires c = record { readable = c.requires.readable; room = tree_asked (tree_of (nodes_in c.args.kind.now c.args.left.now c.args.gate.now c.args.right.now) c.args.i) c.args.a c.args.b c.requires.room c.write_leaf.ensures }
+copy-l-requires c = record { readable = c.requires.readable; room = tree_asked (tree_of (nodes_in c.args.kind.now c.args.left.now c.args.gate.now c.args.right.now) c.args.i) c.args.a c.args.b c.requires.room c.put_wire.ensures }
 
-pub write_leaf-requires-2 : goal.write_leaf-requires-2
-write_leaf-requires-2 c = last_asked _ c.args.a c.args.b c.requires.room c.write_leaf.ensures c.copy-l.ensures.count c.copy-l.ensures.written
+pub put_wire-requires-2 : goal.put_wire-requires-2
+put_wire-requires-2 c = last_asked _ c.args.a c.args.b c.requires.room c.put_wire.ensures c.copy-l.ensures.count c.copy-l.ensures.written
 
 pub overflow_add-l : goal.overflow_add-l
-overflow_add-l c = record { fits = omega (arith, fits _ c.args.a c.args.b c.requires.room c.write_leaf.ensures c.copy-l.ensures.count c.copy-l.ensures.written) }
+overflow_add-l c = record { fits = omega (arith, fits _ c.args.a c.args.b c.requires.room c.put_wire.ensures c.copy-l.ensures.count c.copy-l.ensures.written) }
 
-pub write_parent-requires : goal.write_parent-requires
-write_parent-requires c = let n = inner_asked _ c.args.a c.args.b c.requires.room c.write_leaf.ensures c.copy-l.ensures.count c.copy-l.ensures.written c.write_leaf-2.ensures in record { room = n.0; le_l = n.1; l_bound = n.2 }
+pub put_series-requires : goal.put_series-requires
+put_series-requires c = let n = inner_asked _ c.args.a c.args.b c.requires.room c.put_wire.ensures c.copy-l.ensures.count c.copy-l.ensures.written c.put_wire-2.ensures in record { room = n.0; le_l = n.1; l_bound = n.2 }
 
 pub overflow_add-l-2 : goal.overflow_add-l-2
-overflow_add-l-2 c = record { fits = omega (arith, fits _ c.args.a c.args.b c.requires.room c.write_leaf.ensures c.copy-l.ensures.count c.copy-l.ensures.written) }
+overflow_add-l-2 c = record { fits = omega (arith, fits _ c.args.a c.args.b c.requires.room c.put_wire.ensures c.copy-l.ensures.count c.copy-l.ensures.written) }
 
-pub write_parent-requires-2 : goal.write_parent-requires-2
-write_parent-requires-2 c = let n = outer_asked _ c.args.a c.args.b c.requires.room c.write_leaf.ensures c.copy-l.ensures.count c.copy-l.ensures.written c.write_leaf-2.ensures c.write_parent.ensures in record { room = n.0; le_l = n.1; l_bound = n.2 }
+pub put_series-requires-2 : goal.put_series-requires-2
+put_series-requires-2 c = let n = outer_asked _ c.args.a c.args.b c.requires.room c.put_wire.ensures c.copy-l.ensures.count c.copy-l.ensures.written c.put_wire-2.ensures c.put_series.ensures in record { room = n.0; le_l = n.1; l_bound = n.2 }
 
 pub overflow_add-l-3 : goal.overflow_add-l-3
-overflow_add-l-3 c = record { fits = omega (arith, fits _ c.args.a c.args.b c.requires.room c.write_leaf.ensures c.copy-l.ensures.count c.copy-l.ensures.written) }
+overflow_add-l-3 c = record { fits = omega (arith, fits _ c.args.a c.args.b c.requires.room c.put_wire.ensures c.copy-l.ensures.count c.copy-l.ensures.written) }
 
-pub write_root-requires : goal.write_root-requires
-write_root-requires c =
-    let n = root_asked _ c.args.a c.args.b c.requires.room c.write_leaf.ensures c.copy-l.ensures.count c.copy-l.ensures.written c.write_leaf-2.ensures c.write_parent.ensures c.write_parent-2.ensures in
+pub put_root-requires : goal.put_root-requires
+put_root-requires c =
+    let n = root_asked _ c.args.a c.args.b c.requires.room c.put_wire.ensures c.copy-l.ensures.count c.copy-l.ensures.written c.put_wire-2.ensures c.put_series.ensures c.put_series-2.ensures in
     record { room = n.0; le_c = n.1 }
 
 pub overflow_add-result : goal.overflow_add-result
-overflow_add-result c = record { fits = omega (arith, fits _ c.args.a c.args.b c.requires.room c.write_leaf.ensures c.copy-l.ensures.count c.copy-l.ensures.written) }
+overflow_add-result c = record { fits = omega (arith, fits _ c.args.a c.args.b c.requires.room c.put_wire.ensures c.copy-l.ensures.count c.copy-l.ensures.written) }
 
 pub returns : goal.returns
-returns c = let d = whole_done _ c.args.a c.args.b c.requires.room c.write_leaf.ensures c.copy-l.ensures.count c.copy-l.ensures.written c.write_leaf-2.ensures c.write_parent.ensures c.write_parent-2.ensures c.write_root.ensures.written in record { count = d.0; planted = d.1.0; written = d.1.1; held = c.write_root.ensures.held }
+returns c = let d = whole_done _ c.args.a c.args.b c.requires.room c.put_wire.ensures c.copy-l.ensures.count c.copy-l.ensures.written c.put_wire-2.ensures c.put_series.ensures c.put_series-2.ensures c.put_root.ensures.written in record { count = d.0; planted = d.1.0; written = d.1.1; held = c.put_root.ensures.held }

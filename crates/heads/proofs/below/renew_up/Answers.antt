@@ -1,11 +1,8 @@
 -- `heads::below::renew_up` meets its contract. Assumes nothing.
 use mathlib.Core.Path.{refl}
 use native.Mathlib.Omega.{arith}
-use Rattle.heads.proofs.Renewing.{starts, makes, node_on_way, rises, further, ends, at_top}
+use Rattle.heads.proofs.Renewing.{makes, node_on_way, rises, further, ends, at_top}
 use Rattle.heads.proofs.below.renew_up.Goals as goal
-
-pub loop-k-init : goal.loop-k-init
-loop-k-init c = starts c.requires
 
 pub renew-requires : goal.renew-requires
 renew-requires c = makes c.requires c.loop-k.invariant

@@ -1,5 +1,5 @@
 -- `spending::tree::tree_runs` meets its contract: ticks spent from the raised start on, and their runs noted. Assumes nothing.
-use mathlib.Core.Path.{◌∙◌}
+use mathlib.Core.Path.{refl, ◌∙◌}
 use native.Mathlib.Omega.{arith}
 use Rattle.planting.proofs.HeldNodes.{kinds_held}
 use Rattle.heads.proofs.Gathering.{steps_held}
@@ -19,11 +19,11 @@ list_saving-saving-requires c = earnable c.requires.tree_held.1 (c.start.auto.in
 pub step_count-steps-requires : goal.step_count-steps-requires
 step_count-steps-requires c = (gates_few c.requires.tree_held.1, c.requires.tree_held.1.counts_long, counts_small c.requires.tree_held.1)
 
-pub overflow_sub-node_count : goal.overflow_sub-node_count
-overflow_sub-node_count c = omega (arith, c.node_count.ensures, kinds_held c.args.tree.now, c.requires.tree_held.1.some_node)
+pub overflow_sub-tree : goal.overflow_sub-tree
+overflow_sub-tree c = omega (arith, kinds_held c.args.tree.now, c.requires.tree_held.1.some_node)
 
 pub spend_ticks-pairs-requires : goal.spend_ticks-pairs-requires
-spend_ticks-pairs-requires c = record { curvable = can_spend c.args.tree.now c.requires.tree_held.1 c.gather.ensures c.start.ensures c.node_count.ensures c.step_count-steps.ensures; steps_held = steps_held c.gather.ensures (steps_lent c.requires.tree_held.1); steps_in_bounds = (omega (arith, steps_few c.requires.tree_held.1, c.step_count-steps.ensures, c.requires.max_pairs_in_bounds.0), omega (arith, steps_few c.requires.tree_held.1, c.step_count-steps.ensures, c.requires.max_pairs_in_bounds.1)) }
+spend_ticks-pairs-requires c = record { curvable = can_spend c.args.tree.now c.requires.tree_held.1 c.gather.ensures c.start.ensures refl c.step_count-steps.ensures; steps_held = steps_held c.gather.ensures (steps_lent c.requires.tree_held.1); steps_in_bounds = (omega (arith, steps_few c.requires.tree_held.1, c.step_count-steps.ensures, c.requires.max_pairs_in_bounds.0), omega (arith, steps_few c.requires.tree_held.1, c.step_count-steps.ensures, c.requires.max_pairs_in_bounds.1)) }
 
 pub shape_of-increases : goal.shape_of-increases
 shape_of-increases c = c.spend_ticks-pairs.auto.increases ∙ c.start.auto.increases
@@ -35,4 +35,4 @@ pub shape_of-pair_gains : goal.shape_of-pair_gains
 shape_of-pair_gains c = c.spend_ticks-pairs.auto.pair_gains
 
 pub returns : goal.returns
-returns c = λ B held. record { start = _; at_start = started c.args.tree.now held c.gather.ensures c.start.ensures; saves = c.list_saving-saving.ensures; spent = spent c.args.tree.now held c.gather.ensures c.node_count.ensures c.step_count-steps.ensures c.spend_ticks-pairs.ensures }
+returns c = λ B held. record { start = _; at_start = started c.args.tree.now held c.gather.ensures c.start.ensures; saves = c.list_saving-saving.ensures; spent = spent c.args.tree.now held c.gather.ensures refl c.step_count-steps.ensures c.spend_ticks-pairs.ensures }
