@@ -5,7 +5,7 @@ use mathlib.Core.Path.{◌≡◌, refl, sym, ◌∙◌, ap}
 use mathlib.Core.Logic.{◌⊎◌, inl, inr}
 use mathlib.Core.List.{List}
 use Prim.Native.Nat.{ℕ, ◌+◌, ◌≤◌, ◌<◌}
-use native.Mathlib.Nat.{not-suc-le-zero, eq-or-lt_of_le}
+use native.Mathlib.Nat.{eq-or-lt_of_le}
 use native.Mathlib.Omega.{arith}
 use lib.ListN.{length, get_or, set}
 use Rattle.lists.specs.Search.{LowestBelow}
@@ -13,7 +13,7 @@ use Rattle.model.specs.Limits.{max_gates}
 use Rattle.model.specs.Block.{Block}
 use Rattle.model.specs.Refusal.{OnLoop}
 use Rattle.ordering.specs.Wires.{Lent, Wired, InArrays}
-use Rattle.loops.specs.Square.{pair_place, square_size, Paired, PairMarks, Closed}
+use Rattle.loops.specs.Square.{pair_place, Paired, PairMarks, Closed}
 use Rattle.ordering.proofs.Marks.{lowest_same}
 use Rattle.ordering.proofs.Wires.{wired_gates, wired_loop, loop_wired}
 use Rattle.loops.proofs.Square.{paired_here, paired_kept, paired_old, marked_reaches, reaching_marked}
@@ -35,16 +35,6 @@ pub pairs_fewer : {E : ℕ → ℕ → Type 0} {n : ℕ} {square : List ℕ} →
 pairs_fewer few M = record { right = λ a b h l. M.right a b (omega arith) (omega arith); whole = λ a b h l. M.whole a b (omega arith) (omega arith) }
 
 module _ (sources targets : List ℕ) where
-  pub wired_none : (a b : ℕ) → ¬ (Wired 0 sources targets a b)
-  wired_none a b w = not-suc-le-zero w.below
-
-  pub pairs_none : (n : ℕ) (square : List ℕ) → n ≤ max_gates → ((i : ℕ) → i < square_size → get_or square i 0 ≡ 0) → PairMarks (Wired 0 sources targets) n square
-  pairs_none n square few zeros =
-      record {
-        right = λ a b h l p. absurd (p (zeros (pair_place a b) (omega arith)));
-        whole = λ a b h l w. absurd (wired_none a b w);
-      }
-
   module _ (i : ℕ) where
     wired_more : (a b : ℕ) → Wired i sources targets a b → Wired (i + 1) sources targets a b
     wired_more a b w = let l = w.below in record { place = w.place; below = omega arith; source = w.source; target = w.target }

@@ -100,9 +100,6 @@ module _ (start : List ℕ) (n : ℕ) (few : n ≤ max_gates) where
           row = λ y h. absurd (not-suc-le-zero h);
         }
 
-    pub gate_ends : (square : List ℕ) → Closing start n k n 0 square → Closed start n (suc k) square
-    gate_ends square C = record { right = C.right; whole = λ x y h l t. C.rows x y h h l t }
-
     module _ (a : ℕ) (gate : a < n) where
       row_more : (square : List ℕ) → Closing start n k a 0 square → ((y : ℕ) → y < n → Ways (suc k) a y → Paired square a y) → Closing start n k (a + 1) 0 square
       row_more square C done =

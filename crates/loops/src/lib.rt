@@ -13,9 +13,8 @@ ghost use Rattle.loops.specs.Square.{square_size, Paired, PairMarks, Closed};
 use model::limits::{GATES_SQUARED, MAX_GATES};
 
 // Marks each pair of gates that a wire joins; no mark may be set before.
-fn mark_pairs(m: usize, sources: &[u32], targets: &[u32], square: &mut [u8])
+fn mark_pairs(m: usize, sources: &[u32], targets: &[u32], square: &mut [u8; GATES_SQUARED])
     requires lent { Lent max_gates m sources.now targets.now }
-    requires square_size_in_bounds { square_size ≤ length square.old }
     requires unmarked { (i : ℕ) → i < square_size → get_or square.old i 0 ≡ 0 }
     ensures { PairMarks (Wired m sources.now targets.now) max_gates square.new }
 {
@@ -25,9 +24,8 @@ fn mark_pairs(m: usize, sources: &[u32], targets: &[u32], square: &mut [u8])
 }
 
 // Marks where each gate leads, the wires being the pairs marked before: gate after gate is let through.
-fn close_square(n: usize, square: &mut [u8])
-    requires n_le_max_gates { n ≤ max_gates }
-    requires square_size_in_bounds { square_size ≤ length square.old }
+fn close_square(n: usize, square: &mut [u8; GATES_SQUARED])
+    requires { n ≤ max_gates }
     ensures { Closed square.old n n square.new }
 {
     for k in 0..n {
@@ -44,9 +42,8 @@ fn close_square(n: usize, square: &mut [u8])
 }
 
 // The lowest gate whose pair with itself is marked.
-fn first_paired(n: usize, square: &[u8]) -> Option<usize>
-    requires n_le_max_gates { n ≤ max_gates }
-    requires square_size_in_bounds { square_size ≤ length square.now }
+fn first_paired(n: usize, square: &[u8; GATES_SQUARED]) -> Option<usize>
+    requires { n ≤ max_gates }
     ensures { LowestBelow (λ (g : ℕ). Paired square.now g g) n result }
 {
     (0..n).find(|&g| square[g * MAX_GATES + g] != 0)

@@ -2,17 +2,13 @@
 -- Assumes nothing.
 use Rattle.std.proofs.Common.{Option, Some, None}
 use mathlib.Core.Path.{◌≡◌, refl, sym, ◌∙◌, ap}
-use mathlib.Core.Logic.{◌≢◌, ◌⊎◌, inl, inr, ⊎_elim}
-use mathlib.Core.Bool.{Bool, true, false, not}
+use mathlib.Core.Logic.{◌≢◌, ◌⊎◌, inl, inr}
 use mathlib.Core.List.{List}
 use Prim.Native.Nat.{ℕ, ◌-◌, ◌<◌}
 use native.Mathlib.Omega.{arith}
 use native.Mathlib.Decide.{ℕ_discrete}
-use lib.Dec.{eqb}
 use lib.ListN.{get_or}
-use borrow.Author.Tests.{eqb-true, eqb-false, not-true, not-false}
-use Rattle.lists.specs.Search.{LowestBelow, Says}
-use Rattle.lists.proofs.Search.{says_by}
+use Rattle.lists.specs.Search.{LowestBelow}
 use Rattle.model.specs.Block.{Block, last, Joined}
 use Rattle.model.specs.Refusal.{EndFault, into_first, none_in, out_of_last, none_out}
 use Rattle.ordering.specs.Wires.{Lent, InArrays}
@@ -21,31 +17,6 @@ use Rattle.network.specs.Misplaced.{Misplaced, too_many, missing, Faulty}
 use Rattle.network.specs.Judged.{FaultFound}
 use Rattle.ordering.proofs.Marks.{lowest_same}
 use Rattle.ordering.proofs.Wires.{wired_gates, wired_joined, joined_wired}
-
-pub says_or : (P Q : Type 0) (b : Bool) → ¬ P → Says Q b → Says (P ⊎ Q) b
-says_or P Q true none q = inr q
-says_or P Q false none q = ⊎_elim none q
-
-end_misplaced : {g end mark : ℕ} → g ≡ end → Misplaced g end mark → mark ≢ 0
-end_misplaced e (too_many f d) = d
-end_misplaced e (missing f z) = absurd (f e)
-
-other_misplaced : {g end mark : ℕ} → g ≢ end → Misplaced g end mark → mark ≡ 0
-other_misplaced d (too_many e m) = absurd (d e)
-other_misplaced d (missing f z) = z
-
--- the end is misplaced when it is marked, every other gate when it is not
-pub end_says : (g end mark : ℕ) → g ≡ end → Says (Misplaced g end mark) (not (eqb mark 0))
-end_says g end mark e =
-    says_by (Misplaced g end mark) (not (eqb mark 0))
-    (λ t. too_many e (eqb-false mark 0 (not-true (eqb mark 0) t)))
-    (λ f m. end_misplaced e m (eqb-true mark 0 (not-false (eqb mark 0) f)))
-
-pub other_says : (g end mark : ℕ) → g ≢ end → Says (Misplaced g end mark) (eqb mark 0)
-other_says g end mark d =
-    says_by (Misplaced g end mark) (eqb mark 0)
-    (λ t. missing d (eqb-true mark 0 t))
-    (λ f m. eqb-false mark 0 f (other_misplaced d m))
 
 -- One side: P tells which gates have a wire there.
 module _ (P : ℕ → Type 0) (n : ℕ) (marks : List ℕ) (M : Marks P n marks) (g end : ℕ) (gate : g < n) where

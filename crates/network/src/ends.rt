@@ -1,6 +1,7 @@
 // Refusal 9: the lowest gate that has a wire where it must have none, or none where it must have one.
-ghost use Rattle.std.specs.Prelude.{◌≤◌, ◌<◌, length};
+ghost use Rattle.std.specs.Prelude.{◌≤◌, ◌<◌};
 ghost use Rattle.lists.specs.Search.{LowestBelow, Says};
+ghost use Rattle.model.specs.Limits.{max_gates};
 ghost use Rattle.model.specs.Block.{Block};
 ghost use Rattle.ordering.specs.Wires.{Lent, InArrays};
 ghost use Rattle.network.specs.Misplaced.{Misplaced, Faulty};
@@ -17,16 +18,16 @@ fn misplaced(g: usize, end: usize, mark: u8) -> bool
 }
 
 // Whether gate g of the n gates is at fault with its wires in or with its wires out, as the marks tell.
-fn faulty(n: usize, g: usize, ins: &[u8], outs: &[u8]) -> bool
-    requires { (g < n) × (n ≤ length ins.now) × (n ≤ length outs.now) }
+fn faulty(n: usize, g: usize, ins: &[u8; MAX_GATES], outs: &[u8; MAX_GATES]) -> bool
+    requires { (g < n) × (n ≤ max_gates) }
     ensures { Says (Faulty n ins.now outs.now g) result }
 {
     misplaced(g, 0, ins[g]) || misplaced(g, n - 1, outs[g])
 }
 
 // The lowest gate at fault as the marks tell.
-fn first_faulty(n: usize, ins: &[u8], outs: &[u8]) -> Option<usize>
-    requires { (n ≤ length ins.now) × (n ≤ length outs.now) }
+fn first_faulty(n: usize, ins: &[u8; MAX_GATES], outs: &[u8; MAX_GATES]) -> Option<usize>
+    requires { n ≤ max_gates }
     ensures { LowestBelow (Faulty n ins.now outs.now) n result }
 {
     (0..n).find(|&g| faulty(n, g, ins, outs))

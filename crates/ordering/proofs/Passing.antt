@@ -4,7 +4,7 @@ use mathlib.Core.Path.{◌≡◌, refl, sym, ◌∙◌, ap}
 use mathlib.Core.Logic.{◌≢◌}
 use mathlib.Core.Bool.{cond}
 use mathlib.Core.List.{List}
-use Prim.Native.Nat.{ℕ, suc, ◌+◌, ◌-◌, ◌≤◌, ◌<◌}
+use Prim.Native.Nat.{ℕ, suc, ◌-◌, ◌≤◌, ◌<◌}
 use native.Mathlib.Nat.{le_refl}
 use native.Mathlib.Decide.{ℕ_discrete, dec_lt}
 use native.Mathlib.Omega.{arith}
@@ -51,17 +51,6 @@ module _ {m : ℕ} {sources place : List ℕ} {ahead : ℕ → ℕ} {done next :
       after : (i : ℕ) → i < m → ahead i ≡ 1 → last_before sources next a ≤ i → Dec (i < next) → done < get_or place (get_or sources i 0) 0
       after i l o b (yes q) = let d = alone i l (none_after_last sources next a i b q) in let w = S.waiting i l o in omega arith
       after i l o b (no q) = S.waiting_after i l o (omega arith)
-
-  -- every wire of the gate at place `done` is passed: the next gate has its turn
-  turn_over : next ≡ 0 → Passed m sources place ahead (done + 1) m
-  turn_over e =
-      record {
-        at_most = S.at_most;
-        passed = λ i l z. omega (arith, S.passed i l z);
-        passed_before = λ i l z h. omega (arith, S.passed i l z);
-        waiting = λ i l o. omega (arith, S.waiting_after i l o (omega arith));
-        waiting_after = λ i l o h. absurd (omega arith);
-      }
 
   -- a gate placed later has its turn later
   passed_placed : (n g count : ℕ) → n ≤ get_or place g 0 → g < length place → done < count → count < n → Passed m sources (set place g count) ahead done next
@@ -145,9 +134,6 @@ module _ {n m : ℕ} {sources targets : List ℕ} (L : Lent n m sources targets)
         alone i l d e =
             let w = C.placed.within in
             d (sym (C.placed.stands_there (get_or sources i 0) (L.source_is_gate i l) (omega arith)) ∙ ap (λ (k : ℕ). get_or order k 0) e)
-
-    pub counted_over : done < count → next ≡ 0 → State left order count (done + 1) m
-    counted_over few e = again (done + 1) m (omega arith) (turn_over C.so_far e)
 
   -- Wire i, from the gate at place `done` to gate g, is passed.
   module _ {left order : List ℕ} {count done i : ℕ} (C : State left order count done (suc i)) (few : done < count) (wire : i < m) (from : get_or sources i 0 ≡ get_or order done 0) (g : ℕ) (to : g ≡ get_or targets i 0) where

@@ -2,7 +2,7 @@
 -- Assumes nothing.
 use mathlib.Core.Path.{◌≡◌, refl, sym, ◌∙◌, ap}
 use mathlib.Core.List.{List}
-use Prim.Native.Nat.{ℕ, suc, ◌+◌, ◌-◌, ◌≤◌, ◌<◌}
+use Prim.Native.Nat.{ℕ, suc, ◌-◌, ◌≤◌, ◌<◌}
 use native.Mathlib.Nat.{le_refl}
 use native.Mathlib.Omega.{arith}
 use lib.ListN.{length, get_or, set}
@@ -11,7 +11,7 @@ use Rattle.ordering.specs.Order.{SameBeyond}
 use Rattle.ordering.specs.Chain.{last_before}
 use Rattle.ordering.specs.Counts.{Visit, waits, placed_now, Linked, Counted}
 use Rattle.ordering.proofs.Chains.{last_leads_there, last_at_most}
-use Rattle.ordering.proofs.Passing.{counted_chain, counted_over, can_pass, wire_passed}
+use Rattle.ordering.proofs.Passing.{counted_chain, can_pass, wire_passed}
 
 -- a visit adds no gate before those placed, and none beyond n
 visit_keeps : {n g : ℕ} {left order : List ℕ} {count : ℕ} → count < n → {order⁺ : List ℕ} {count⁺ : ℕ} → Visit g left order count order⁺ count⁺
@@ -44,9 +44,6 @@ module _ {n m : ℕ} {sources targets heads links : List ℕ} (K : Linked n m so
       }
 
   module _ {order₀ left order : List ℕ} {count done next : ℕ} (T : Turn n m sources targets order₀ left order count done next) where
-    pub turn_ends : next ≡ 0 → Counted n m sources targets left order count (done + 1) m
-    turn_ends e = counted_over K.lent T.counted T.few e
-
     module _ (more : 0 < next) where
       one_more : next ≡ suc (next - 1)
       one_more = omega arith

@@ -18,9 +18,9 @@ use marking::at;
 use model::limits::{MAX_GATES, MAX_WIRES};
 
 // Counts the wires into each gate.
-fn count_wires(m: usize, targets: &[u32], left: &mut [u32])
+fn count_wires(m: usize, targets: &[u32], left: &mut [u32; MAX_GATES])
     requires room { (m ≤ max_wires) × (m ≤ length targets.now) }
-    requires to_gates { (i : ℕ) → i < m → get_or targets.now i 0 < length left.old }
+    requires to_gates { (i : ℕ) → i < m → get_or targets.now i 0 < max_gates }
     requires begun { (g : ℕ) → get_or left.old g 0 ≡ 0 }
     ensures { (g : ℕ) → get_or left.new g 0 ≡ wires_into targets.now m g }
 {
@@ -30,9 +30,9 @@ fn count_wires(m: usize, targets: &[u32], left: &mut [u32])
 }
 
 // Places gate g next if no wire into it is left; answers how many gates are placed.
-fn place_if_free(g: usize, left: &[u32], order: &mut [u32], count: usize) -> usize
+fn place_if_free(g: usize, left: &[u32; MAX_GATES], order: &mut [u32], count: usize) -> usize
     requires g_lt_max_gates { (g < max_gates) × (count < max_gates) }
-    requires g_in_bounds { (g < length left.now) × (count < length order.old) }
+    requires room { count < length order.old }
     ensures { Visit g left.now order.old count order.new result }
 {
     if left[g] != 0 {
@@ -43,9 +43,9 @@ fn place_if_free(g: usize, left: &[u32], order: &mut [u32], count: usize) -> usi
 }
 
 // Places the gates that no wire leads to; answers how many they are.
-fn place_free(n: usize, left: &[u32], order: &mut [u32]) -> usize
+fn place_free(n: usize, left: &[u32; MAX_GATES], order: &mut [u32]) -> usize
     requires n_le_max_gates { n ≤ max_gates }
-    requires n_in_bounds { (n ≤ length left.now) × (n ≤ length order.old) }
+    requires n_in_bounds { n ≤ length order.old }
     ensures { FreePlaced n left.now order.old n order.new result }
 {
     let mut count = 0;
@@ -56,9 +56,9 @@ fn place_free(n: usize, left: &[u32], order: &mut [u32]) -> usize
 }
 
 // One wire into gate g is passed, and the gate is placed next if that was the last; answers how many gates are placed.
-fn pass_wire(g: usize, left: &mut [u32], order: &mut [u32], count: usize) -> usize
+fn pass_wire(g: usize, left: &mut [u32; MAX_GATES], order: &mut [u32], count: usize) -> usize
     requires g_lt_max_gates { (g < max_gates) × (count < max_gates) }
-    requires g_in_bounds { (g < length left.old) × (count < length order.old) }
+    requires room { count < length order.old }
     requires nonzero { 0 < get_or left.old g 0 }
     ensures left_after { left.new ≡ set left.old g (get_or left.old g 0 - 1) }
     ensures visit { Visit g left.new order.old count order.new result }
@@ -74,16 +74,17 @@ fn pass_gate(
     m: usize,
     sources: &[u32],
     targets: &[u32],
-    heads: &[u32],
-    links: &[u32],
-    left: &mut [u32],
+    heads: &[u32; MAX_GATES],
+    links: &[u32; MAX_WIRES],
+    left: &mut [u32; MAX_GATES],
     order: &mut [u32],
     done: usize,
     placed: usize,
 ) -> usize
     requires linked { Linked n m sources.now targets.now heads.now links.now }
-    requires n_in_bounds { (n ≤ length left.old) × (n ≤ length order.old) }
-    requires done_lt_placed { (done < placed) × Counted n m sources.now targets.now left.old order.old placed done m }
+    requires n_in_bounds { n ≤ length order.old }
+    requires turn { done < placed }
+    requires counted { Counted n m sources.now targets.now left.old order.old placed done m }
     ensures counted { Counted n m sources.now targets.now left.new order.new result (done + 1) m }
     ensures same_beyond { SameBeyond n order.old order.new }
 {
@@ -103,14 +104,14 @@ fn pass_gates(
     m: usize,
     sources: &[u32],
     targets: &[u32],
-    heads: &[u32],
-    links: &[u32],
-    left: &mut [u32],
+    heads: &[u32; MAX_GATES],
+    links: &[u32; MAX_WIRES],
+    left: &mut [u32; MAX_GATES],
     order: &mut [u32],
     placed: usize,
 ) -> usize
     requires linked { Linked n m sources.now targets.now heads.now links.now }
-    requires n_in_bounds { (n ≤ length left.old) × (n ≤ length order.old) }
+    requires n_in_bounds { n ≤ length order.old }
     requires counted { Counted n m sources.now targets.now left.old order.old placed 0 m }
     ensures counted { Counted n m sources.now targets.now left.new order.new result result m }
     ensures same_beyond { SameBeyond n order.old order.new }

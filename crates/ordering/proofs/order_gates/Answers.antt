@@ -18,7 +18,7 @@ count_wires-requires-clause-begun c = zeros max_gates
 
 pub pass_gates-count-requires : goal.pass_gates-count-requires
 pass_gates-count-requires c =
-    record { linked = record { lent = c.requires.lent; heads_long = omega arith; links_long = omega arith; chained = c.chain_wires.ensures }; n_in_bounds = (omega arith, omega arith); counted = counted_begins c.requires.lent c.count_wires.ensures c.place_free-free.ensures }
+    record { linked = record { lent = c.requires.lent; heads_long = omega arith; links_long = omega arith; chained = c.chain_wires.ensures }; n_in_bounds = omega arith; counted = counted_begins c.requires.lent c.count_wires.ensures c.place_free-free.ensures }
 
 pub returns : goal.returns
 returns c =

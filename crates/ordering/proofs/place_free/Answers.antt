@@ -10,7 +10,7 @@ loop-g-init c = free_none c.args.n c.args.left.now c.args.order.now
 pub place_if_free-count-requires : goal.place_if_free-count-requires
 place_if_free-count-requires c =
     let r = free_room c.loop-g.invariant c.loop-g-test.true in
-    record { g_lt_max_gates = (omega arith, omega arith); g_in_bounds = (omega arith, omega arith) }
+    record { g_lt_max_gates = (omega arith, omega arith); room = omega arith }
 
 pub loop-g-preserved : goal.loop-g-preserved
 loop-g-preserved c = free_visited c.loop-g.invariant c.loop-g-test.true (omega arith) c.place_if_free-count.ensures
