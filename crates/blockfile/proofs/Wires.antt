@@ -28,7 +28,7 @@ use Rattle.ranges.specs.Seen.{between, Marks}
 use Rattle.model.proofs.Bodies.{wire_bytes_range}
 use Rattle.ranges.proofs.Pairs.{ends_below}
 use Rattle.blockfile.proofs.Stores.{kept_all, kept_set}
-use Rattle.blockfile.proofs.Judged.{Judged, read_not_refused, judged_refused, judged_fits, judged_found, judged_ranges}
+use Rattle.blockfile.proofs.Judged.{Judged, judged_refused, judged_fits, judged_found, judged_ranges}
 
 -- a wire field without fault has the length of its edition, and names two gates of the block
 pub record TwoGates (ed n : ℕ) (b : List ℕ) : Type 0 where
@@ -48,7 +48,7 @@ module _ {s : List ℕ} {o ed n m i : ℕ} {b : List ℕ} {table : List ℕ} (j 
   wire_refused A x z e =
       record {
         reading = λ (ws : List Wire) (h : Marks table ws). judged_refused (j ws h) x z e;
-        marked = λ ws h next f. absurd (read_not_refused next x (sym f));
+        marked = λ ws h next f. absurd (cc);
         kept = record { sources = kept_all i A.sources; targets = kept_all i A.targets; delays = kept_all i A.delays };
         untouched = λ y f. (refl, refl);
       }
@@ -67,7 +67,7 @@ module _ {s : List ℕ} {o ed n m i : ℕ} {b : List ℕ} {table : List ℕ} (j 
           targets = kept_set i ts ts i y (omega arith) (kept_all i ts);
           delays = kept_set i ds ds i v (omega arith) (kept_all i ds);
         };
-        untouched = λ x' f. absurd (read_not_refused q x' f);
+        untouched = λ x' f. absurd (cc);
       }
     where
       held : wire_held (wire_arrays (set ss i x) (set ts i y) (set ds i v)) i ≡ between (get_or b 0 0) (get_or b 1 0) (delay_in ed b)
