@@ -115,7 +115,3 @@ module _ {ed : ℕ} {s : List ℕ} {p i : ℕ} {A : GateArrays} {o : ℕ} (r : G
   pub gates_refused : (n : ℕ) (B : GateArrays) (x : Refusal) → i < n → GateRead s o ed i A B (Err x) → refusing x ≡ reading_map (map (gate_of ed)) (read_gates ed n s p)
   gates_refused n B x h t =
       sym (ap (reading_map (map (gate_of ed))) (read_gates_refused ed s i n p h r.were_read (map_refused (gate_of ed) (read_field (gate ed) s o) (refusal_answer x).number (get_or (refusal_answer x).values 0 0) t.reading)))
-
-  -- all are read
-  pub gates_all : (n : ℕ) → i ≡ n → found (gates_held A n) o ≡ reading_map (map (gate_of ed)) (read_gates ed n s p)
-  gates_all n e = rw (← e, r.were_read, r.held)
