@@ -27,7 +27,7 @@ use Rattle.fields.specs.Behind.{offset_behind}
 use Rattle.blockfile.specs.Held.{GateArrays, gate_held, gates_held, GateStored, GatesKept}
 use Rattle.blockfile.specs.Reads.{GateRead, reading_map, refusing}
 use Rattle.blockfile.proofs.Stores.{kept_all}
-use Rattle.blockfile.proofs.Judged.{Judged, read_not_refused, judged_refused, judged_found}
+use Rattle.blockfile.proofs.Judged.{Judged, judged_refused, judged_found}
 
 -- nothing was stored
 gates_same : (g : ℕ) (A : GateArrays) → GatesKept g A A
@@ -45,7 +45,7 @@ module _ {s : List ℕ} {o ed n : ℕ} {b : List ℕ} (j : Judged (gate ed) s o 
   gate_refused A x z e = record { reading = ap (reading_map (gate_of ed)) (judged_refused j x z e); kept = gates_same g A; untouched = λ y f. refl }
 
   pub gate_found : (old new : GateArrays) (a q : ℕ) → n ≡ 0 → a ≡ activity_of ed (number b 2) → GateStored b a g old new → q ≡ offset_behind s o → GateRead s o ed g old new (Ok q)
-  gate_found old new a q z active r e = record { reading = rw (judged_found j z, r.stored, active, e); kept = r.kept; untouched = λ x f. absurd (read_not_refused q x f) }
+  gate_found old new a q z active r e = record { reading = rw (judged_found j z, r.stored, active, e); kept = r.kept; untouched = λ x f. absurd (cc) }
 
 -- what was found or refused before it was seen through f
 module _ {A B : Type 0} (f : A → B) where
@@ -115,7 +115,3 @@ module _ {ed : ℕ} {s : List ℕ} {p i : ℕ} {A : GateArrays} {o : ℕ} (r : G
   pub gates_refused : (n : ℕ) (B : GateArrays) (x : Refusal) → i < n → GateRead s o ed i A B (Err x) → refusing x ≡ reading_map (map (gate_of ed)) (read_gates ed n s p)
   gates_refused n B x h t =
       sym (ap (reading_map (map (gate_of ed))) (read_gates_refused ed s i n p h r.were_read (map_refused (gate_of ed) (read_field (gate ed) s o) (refusal_answer x).number (get_or (refusal_answer x).values 0 0) t.reading)))
-
-  -- all are read
-  pub gates_all : (n : ℕ) → i ≡ n → found (gates_held A n) o ≡ reading_map (map (gate_of ed)) (read_gates ed n s p)
-  gates_all n e = rw (← e, r.were_read, r.held)

@@ -4,7 +4,6 @@ use mathlib.Core.Path.{◌≡◌, refl, sym, ◌∙◌, ap}
 use mathlib.Core.Bool.{true}
 use mathlib.Core.List.{List}
 use Prim.Native.Nat.{ℕ, zero, suc, ◌≤◌}
-use native.Mathlib.Omega.{arith}
 use lib.ListN.{length}
 use denote.Ref.{Bor}
 use Rattle.lists.proofs.Bool.{is_true}
@@ -22,12 +21,6 @@ use Rattle.faults.specs.Number.{number_of, fault_number}
 use Rattle.faults.proofs.Shapes.{not_0}
 use Rattle.fields.specs.Behind.{offset_behind}
 use Rattle.blockfile.specs.Reads.{refusing}
-
--- what was read was not refused
-pub read_not_refused : (q : ℕ) (x : Refusal) → ◌≡◌ {A = Result ℕ Refusal} (Ok q) (Err x) → ⊥
-read_not_refused q x e =
-    let z : ◌≡◌ {A = ℕ} 0 1 = cc in
-    omega arith
 
 -- A refusal that is passed on.
 pub passed_on : {A : Type 0} (r : Result A Refusal) (x : Refusal) → IsErrAnd r (λ (y : Refusal). y ≡ x) → r ≡ Err x
@@ -50,8 +43,8 @@ pub record RefusedBy (r : Result (Unit {0}) Fault) (o : ℕ) (x : Refusal) : Typ
 
 refused_by : (r : Result (Unit {0}) Fault) (o : ℕ) (m : Result (Unit {0}) Refusal) (x : Refusal) → m ≡ Err x → Told r o m → RefusedBy r o x
 refused_by (Ok u) o m x e t =
-    let z : ◌≡◌ {A = ℕ} 0 1 = cc in
-    absurd (omega arith)
+    let f : m ≡ Ok u = t in
+    absurd (cc)
 refused_by (Err f) o (Ok u) x e t = absurd t
 refused_by (Err f) o (Err y) x e t =
     let w : y ≡ x = cc in
@@ -64,9 +57,7 @@ told_refused {P} r o {m} x c f e = refused_by r o m x e (told_as P r o m c f)
 pub told_nothing : (P : Fault → Refusal → Type 0) (r : Result (Unit {0}) Fault) (m : Result (Unit {0}) Refusal) (u : Unit {0}) → MatchResult r (λ v. m ≡ Ok v) (λ (e : Fault). IsErrAnd m (P e)) → m ≡ Ok u → fault_number r ≡ 0
 told_nothing P (Ok v) m u c e = refl
 told_nothing P (Err f) (Ok v) u c e = absurd c
-told_nothing P (Err f) (Err x) u c e =
-    let z : ◌≡◌ {A = ℕ} 0 1 = cc in
-    absurd (omega arith)
+told_nothing P (Err f) (Err x) u c e = cc
 
 -- n is the fault of the field at o, where k is due; b is its body
 pub record Judged (k : Due) (s : List ℕ) (o n : ℕ) (b : List ℕ) : Type 0 where

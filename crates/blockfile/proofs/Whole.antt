@@ -3,7 +3,6 @@
 use mathlib.Core.Path.{◌≡◌, sym}
 use mathlib.Core.List.{List, [], map}
 use Prim.Native.Nat.{ℕ, ◌≤◌}
-use borrow.Author.Tests.{eqb-true}
 use lib.Dec.{T}
 use lib.ListN.{length, get_or}
 use Rattle.model.specs.declared.Refusal.{Refusal}
@@ -18,7 +17,7 @@ use Rattle.model.proofs.Limited.{header_limits}
 use Rattle.model.proofs.Reading.{read_gates_inside, decode_block_refused, decode_gates_refused, decode_wires_refused, decode_found}
 use Rattle.fields.specs.Behind.{offset_behind}
 use Rattle.blockfile.specs.Reads.{refusing, reading_map}
-use Rattle.blockfile.proofs.Judged.{Judged, judged_refused, judged_fits, judged_found, judged_inside, judged_ranges}
+use Rattle.blockfile.proofs.Judged.{Judged, judged_refused, judged_found, judged_inside, judged_ranges}
 use Rattle.blockfile.proofs.Gates.{FoundBefore, map_found, map_refused}
 
 -- the gates that a file with this body of the block field gives from p on, ..
@@ -44,9 +43,6 @@ module _ {s : List ℕ} {m : ℕ} {b : List ℕ} (j : Judged block s 0 m b) wher
   block_refused x z e = whole_refused s x (decode_block_refused s (sym (judged_refused j x z e)))
 
   module _ (z : m ≡ 0) where
-    pub eight_bytes : length b ≡ 8
-    eight_bytes = eqb-true (length b) 8 (judged_fits j z)
-
     pub gates_at_most : get_or b 1 0 ≤ max_gates
     gates_at_most =
         let t : T (in_range block (says block b)) = rw (judged_ranges j z) tt in

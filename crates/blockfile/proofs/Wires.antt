@@ -5,7 +5,6 @@ use mathlib.Core.Bool.{Bool, true, false, not, ◌||◌}
 use mathlib.Core.List.{List, [], ◌∷◌, ◌++◌}
 use Prim.Native.Nat.{ℕ, ◌+◌, ◌<◌, ◌≤◌}
 use native.Mathlib.Omega.{arith}
-use borrow.Author.Tests.{eqb-true}
 use lib.ListN.{length, get_or, set}
 use lib.Seq.{get_or-set_same}
 use Rattle.lists.specs.Over.{build}
@@ -13,8 +12,8 @@ use Rattle.lists.proofs.Over.{length_build}
 use Rattle.model.specs.declared.Refusal.{Refusal}
 use Rattle.model.specs.Limits.{max_gates, max_wires}
 use Rattle.model.specs.Block.{Wire}
-use Rattle.model.specs.Edition.{wire_bytes, delay_in}
-use Rattle.model.specs.File.{wire, says, some, same_ends, found, refused, read_field, read_wires}
+use Rattle.model.specs.Edition.{delay_in}
+use Rattle.model.specs.File.{wire, some, same_ends, found, refused, read_field, read_wires}
 use Rattle.model.specs.Answer.{refusal, refusal_answer}
 use Rattle.model.proofs.Every.{some_append}
 use Rattle.model.proofs.Fault.{found_inside}
@@ -25,30 +24,15 @@ use Rattle.fields.specs.Behind.{offset_behind}
 use Rattle.blockfile.specs.Held.{WireArrays, wire_arrays, wire_held, wires_held}
 use Rattle.blockfile.specs.Reads.{WireRead, refusing}
 use Rattle.ranges.specs.Seen.{between, Marks}
-use Rattle.model.proofs.Bodies.{wire_bytes_range}
-use Rattle.ranges.proofs.Pairs.{ends_below}
 use Rattle.blockfile.proofs.Stores.{kept_all, kept_set}
-use Rattle.blockfile.proofs.Judged.{Judged, read_not_refused, judged_refused, judged_fits, judged_found, judged_ranges}
-
--- a wire field without fault has the length of its edition, and names two gates of the block
-pub record TwoGates (ed n : ℕ) (b : List ℕ) : Type 0 where
-  pub long : length b ≡ wire_bytes ed
-  pub two : 2 ≤ length b
-  pub source : get_or b 0 0 < n
-  pub target : get_or b 1 0 < n
-
-pub two_gates : {ed n : ℕ} {ws : List Wire} {s : List ℕ} {o m : ℕ} {b : List ℕ} → Judged (wire ed n ws) s o m b → m ≡ 0 → TwoGates ed n b
-two_gates {ed} {n} {ws} {s} {o} {m} {b} j z =
-    let e = ends_below ed n (says (wire ed n ws) b) (judged_ranges j z) in
-    let l : length b ≡ wire_bytes ed = eqb-true (length b) (wire_bytes ed) (judged_fits j z) in
-    record { long = l; two = rw l (wire_bytes_range ed).0; source = e.0; target = e.1 }
+use Rattle.blockfile.proofs.Judged.{Judged, judged_refused, judged_found}
 
 module _ {s : List ℕ} {o ed n m i : ℕ} {b : List ℕ} {table : List ℕ} (j : (ws : List Wire) → Marks table ws → Judged (wire ed n ws) s o m b) where
   pub wire_refused : (A : WireArrays) (x : Refusal) → (m ≡ 0 → ⊥) → refusal_answer x ≡ refusal m o → WireRead s o ed n i A A table table (Err x)
   wire_refused A x z e =
       record {
         reading = λ (ws : List Wire) (h : Marks table ws). judged_refused (j ws h) x z e;
-        marked = λ ws h next f. absurd (read_not_refused next x (sym f));
+        marked = λ ws h next f. absurd (cc);
         kept = record { sources = kept_all i A.sources; targets = kept_all i A.targets; delays = kept_all i A.delays };
         untouched = λ y f. (refl, refl);
       }
@@ -67,7 +51,7 @@ module _ {s : List ℕ} {o ed n m i : ℕ} {b : List ℕ} {table : List ℕ} (j 
           targets = kept_set i ts ts i y (omega arith) (kept_all i ts);
           delays = kept_set i ds ds i v (omega arith) (kept_all i ds);
         };
-        untouched = λ x' f. absurd (read_not_refused q x' f);
+        untouched = λ x' f. absurd (cc);
       }
     where
       held : wire_held (wire_arrays (set ss i x) (set ts i y) (set ds i v)) i ≡ between (get_or b 0 0) (get_or b 1 0) (delay_in ed b)

@@ -2,8 +2,6 @@
 // Standard input: groups, each the length of a block file (2 bytes), the number of its cases (2), the file's bytes, and the cases of 8 bytes each: how many bytes are read (2), and two changes, each a place (2) and the byte to put there (1).
 #![tactic(auto)]
 
-ghost use Rattle.std.specs.Prelude.{◌≡◌, length};
-
 use blockfile::read::{BlockHead, read_block};
 use fields::field::number_at;
 use model::Refusal;
@@ -13,6 +11,9 @@ use std::io;
 
 // Bytes of the input, at most.
 const INPUT_BYTES: usize = 32768;
+
+// Bytes of a case.
+const CASE_BYTES: usize = 8;
 
 // Prints a refusal of 1 to 7.
 fn print_file_refusal(rt: &impl Print, refusal: Refusal) -> io::Result<()> {
@@ -86,9 +87,7 @@ fn change(file: &mut [u8], place: usize, byte: u8) {
 }
 
 // One case: the block, changed twice and cut.
-fn run_case(rt: &impl Print, block: &[u8], case: &[u8]) -> io::Result<()>
-    requires { length case.now ≡ 8 }
-{
+fn run_case(rt: &impl Print, block: &[u8], case: &[u8; CASE_BYTES]) -> io::Result<()> {
     let mut file = [0u8; MAX_BYTES];
     copy(block, &mut file);
     change(&mut file, number_at(case, 2) as usize, case[4]);
@@ -102,7 +101,8 @@ fn run_case(rt: &impl Print, block: &[u8], case: &[u8]) -> io::Result<()>
 
 // All cases of a block.
 fn run_cases(rt: &impl Print, block: &[u8], cases: &[u8]) -> io::Result<()> {
-    for case in cases.chunks_exact(8) {
+    let (cases, _) = cases.as_chunks::<CASE_BYTES>();
+    for case in cases {
         run_case(rt, block, case)?;
     }
     Ok(())
@@ -115,7 +115,8 @@ fn run_all(rt: &impl Print, input: &[u8]) -> io::Result<()> {
         let Some((block, after)) = after.split_at_checked(number_at(head, 0) as usize) else {
             return Ok(());
         };
-        let Some((cases, next)) = after.split_at_checked(8 * number_at(head, 2) as usize) else {
+        let Some((cases, next)) = after.split_at_checked(CASE_BYTES * number_at(head, 2) as usize)
+        else {
             return Ok(());
         };
         run_cases(rt, block, cases)?;

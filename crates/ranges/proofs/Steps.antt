@@ -1,22 +1,21 @@
 -- The steps of a gate's body: the steps of 4k bytes are those at 0 to k − 1, and those of the k arrays of four bytes.
 -- Assumes nothing.
-use mathlib.Core.Path.{◌≡◌, refl, sym, subst, ◌∙◌, ap}
+use mathlib.Core.Path.{◌≡◌, refl, sym, ◌∙◌, ap}
 use mathlib.Core.Bool.{Bool, true, false, ◌&&◌}
 use mathlib.Core.List.{List, [], ◌∷◌, map}
 use Prim.Native.Nat.{ℕ, zero, suc, ◌*◌, ◌-◌, ◌/◌, ◌%◌, ◌<◌, ◌≤◌}
 use native.Mathlib.Numerals.{add-one}
 use native.Mathlib.Omega.{arith}
 use borrow.Author.Tests.{ltb-true, ltb-false}
-use lib.Dec.{T, leb, ltb, eqb, leb→le, eqb→eq}
+use lib.Dec.{ltb}
 use lib.ListN.{length, get_or, take, drop, length-drop}
 use Rattle.std.proofs.Math.ListN.{get_or-map}
 use Rattle.std.specs.Simd.{first_chunks}
 use Rattle.std.specs.List.{list_all, IsAllAdjacentAnswer}
 use lib.Seq.{take_all}
-use Rattle.lists.proofs.Bool.{and_left, and_right}
 use Rattle.lists.specs.Over.{build}
 use Rattle.lists.proofs.Over.{get_or_build}
-use Rattle.model.specs.File.{gate, length_fits, steps_in, every, step_in_range, falls}
+use Rattle.model.specs.File.{steps_in, every, step_in_range, falls}
 use Rattle.model.specs.Block.{Step}
 use Rattle.model.proofs.Every.{every_map}
 use Rattle.model.proofs.Steps.{steps_by_index, falls_passes, falls_fails}
@@ -82,22 +81,6 @@ module _ (b : List ℕ) (e : length b % 4 ≡ 0) where
       let h : suc a.0 < length b / 4 = omega arith in
       let k : a.0 < length b / 4 = omega arith in
       sym (drops_fail b e a.0 h (rw (← drop_at a.0 k, ← drop_at (suc a.0) h) (ltb-false _ _ (sym (rw (add-one a.0) at (a.2 []))))))
-
--- the lengths of a gate's body
-pub record GateLength (l : ℕ) : Type 0 where
-  pub least : 4 ≤ l
-  pub most : l ≤ 36
-  pub whole_steps : l % 4 ≡ 0
-
-pub gate_length : (ed l : ℕ) → length_fits (gate ed) l ≡ true → GateLength l
-gate_length ed l e =
-    let t : T (length_fits (gate ed) l) = subst T (sym e) tt in
-    let r : T (leb 4 l && leb l 36) = and_left (leb 4 l && leb l 36) (eqb (l % 4) 0) t in
-    record {
-      least = leb→le 4 l (and_left (leb 4 l) (leb l 36) r);
-      most = leb→le l 36 (and_right (leb 4 l) (leb l 36) r);
-      whole_steps = eqb→eq (l % 4) 0 (and_right (leb 4 l && leb l 36) (eqb (l % 4) 0) t);
-    }
 
 -- the bytes of the steps, as a part of the body
 pub steps_part : (b : List ℕ) → take (length b - 4) (drop 4 b) ≡ drop 4 b

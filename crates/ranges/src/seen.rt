@@ -1,4 +1,4 @@
-// The pairs of gates that wires have joined, as a table of bytes: the byte at MAX_GATES times the source plus the target is not 0 once a wire stood there.
+// The pairs of gates that wires have joined, as a table of bytes: the byte at MAX_GATES times the source plus the target is not 0 once a wire stood there. Bytes, not `bool`s: `blockfile::read::read_block` takes the table from its callers, which lend bytes.
 // Public for `faults` and `blockfile` alone.
 ghost use Rattle.std.specs.Prelude.{◌≡◌, List, ◌∷◌, ℕ, ◌<◌, ◌≤◌, length, get_or};
 ghost use Rattle.model.specs.Limits.{max_gates};
