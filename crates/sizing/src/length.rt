@@ -34,6 +34,6 @@ pub fn part_lengths(tree: &TreeWords, delays: &[u32], lengths: &mut [u32])
     ensures { Lengths (tree_nodes tree.now) (delays_in delays.now) lengths.new (node_count (tree_nodes tree.now)) }
 {
     for i in 0..node_count(tree) {
-        lengths[i] = length_of(i, tree, delays, &*lengths);
+        lengths[i] = length_of(i, tree, delays, lengths);
     }
 }
