@@ -1,11 +1,10 @@
 // Increases as bytes, four each, the high byte first. Public for `laying` alone.
 #![tactic(auto)]
 
-ghost use Rattle.std.specs.Prelude.{◌≡◌, ◌++◌, ◌+◌, ◌*◌, ◌/◌, ◌%◌, ◌<◌, ◌≤◌, length, take, drop};
+ghost use Rattle.std.specs.Prelude.{◌≡◌, ◌*◌, ◌≤◌, length, take};
 ghost use Rattle.lists.specs.Over.{over};
 ghost use Rattle.model.specs.Limits.{max_gates};
-ghost use Rattle.model.specs.Field.{byte_values};
-ghost use Rattle.model.specs.Layout.{four_bytes, list_bytes, increase_bytes};
+ghost use Rattle.model.specs.Layout.{list_bytes, increase_bytes};
 
 // Writes the first n increases to the front of `out`, four bytes each, the high byte first.
 pub fn write_increases(n: usize, increases: &[u32], out: &mut [u8])

@@ -28,10 +28,10 @@ pub fn series_give_out(
     requires { CanGiveOut block.now tree.now increases.old heads.old i w }
     ensures { GaveOut block.now tree.now increases.old heads.old increases.new heads.new i w (parent (tree_parents tree.now) i) }
 {
-    if node_gain(&*heads, i) == 0 {
+    if node_gain(heads, i) == 0 {
         return;
     }
-    let j = descend(i, tree, &*heads);
+    let j = descend(i, tree, heads);
     if let Kind::Series { gate, .. } = tree.kind_at(j) {
         gate_give_out(gate, w, block, increases, heads);
     } else {

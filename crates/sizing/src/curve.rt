@@ -1,5 +1,5 @@
 // Ticks spent at a node run by run, and the curve of the runs: neighbours of one gain are joined. With ticks for all steps it is the curve of the node.
-ghost use Rattle.std.specs.Prelude.{◌≡◌, ℕ, ◌+◌, ◌-◌, ◌^◌, ◌≤◌, ◌<◌, length, get_or};
+ghost use Rattle.std.specs.Prelude.{ℕ, ◌+◌, ◌^◌, ◌≤◌, ◌<◌, length, get_or};
 ghost use Rattle.heads.specs.Plan.{plan, StepsHeld};
 ghost use Rattle.handout.specs.State.{state};
 ghost use Rattle.sizing.specs.Pairs.{Noted, Curvable, Spent};
@@ -54,7 +54,7 @@ pub fn spend_ticks(
     let mut left = ticks;
     let mut count = 0;
     for _k in 0..steps {
-        let head = node_entry(&*heads, i);
+        let head = node_entry(heads, i);
         let Some(run) = next_run(left, head) else {
             return count;
         };

@@ -29,6 +29,6 @@ pub fn part_lengths(tree: &Tree, delays: &[u32], lengths: &mut [u32])
     ensures { Lengths (tree_nodes tree.now) (delays_in delays.now) lengths.new (node_count (tree_nodes tree.now)) }
 {
     for i in 0..tree.count {
-        lengths[i] = length_of(i, tree, delays, &*lengths);
+        lengths[i] = length_of(i, tree, delays, lengths);
     }
 }

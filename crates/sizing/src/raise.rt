@@ -1,5 +1,5 @@
 // The raised start: inside out, each side of a parallel node gets the ticks that it lacks to the other.
-ghost use Rattle.std.specs.Prelude.{◌≡◌, ℕ, ◌-◌, ◌≤◌, ◌<◌, length};
+ghost use Rattle.std.specs.Prelude.{ℕ, ◌≤◌, ◌<◌, length};
 ghost use Rattle.planting.specs.TreeWords.{tree_nodes};
 ghost use Rattle.heads.specs.Plan.{plan, node_count, StepsHeld};
 ghost use Rattle.handout.specs.State.{state};

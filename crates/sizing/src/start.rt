@@ -28,5 +28,5 @@ pub fn start(
 {
     unslowed_heads(block, increases, heads);
     part_lengths(tree, delays, lengths);
-    raise_and_fill(block, tree, &*lengths, increases, heads);
+    raise_and_fill(block, tree, lengths, increases, heads);
 }

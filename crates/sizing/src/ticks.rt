@@ -40,7 +40,7 @@ pub fn ticks_out(
     ensures { TickedOut (plan block.now tree.now) (state increases.old heads.old) (state increases.new heads.new) i ticks }
 {
     let mut left = ticks;
-    while let Some(run) = next_run(left, node_entry(&*heads, i)) {
+    while let Some(run) = next_run(left, node_entry(heads, i)) {
         series_give_out(i, run, block, tree, increases, heads);
         left -= run;
     }

@@ -1,11 +1,14 @@
 -- What a block whose tree stands in words gives the functions of sizing: all that they ask, and what their results are to the block.
 -- Assumes nothing.
 use mathlib.Core.Path.{◌≡◌, refl, sym, ◌∙◌, ap}
-use mathlib.Core.List.{List, map}
-use Prim.Native.Nat.{ℕ, ◌+◌, ◌*◌, ◌≤◌, ◌<◌}
+use mathlib.Core.List.{List, [], ◌∷◌, map}
+use Prim.Native.Nat.{ℕ, zero, suc, ◌+◌, ◌*◌, ◌≤◌, ◌<◌}
 use native.Mathlib.Nat.{mul-le-mul_right}
 use native.Mathlib.Omega.{arith}
-use lib.ListN.{length, get_or, replicate, length-map, length-replicate, get_or-map}
+use Rattle.std.specs.List.{sum as sum_listed}
+use Rattle.std.proofs.lemmas.List.Sums.{sum_by-append}
+use lib.Seq.{take-suc}
+use lib.ListN.{length, get_or, take, replicate, length-map, length-replicate, get_or-map}
 use Rattle.lists.specs.Sum.{sum}
 use Rattle.lists.specs.Over.{over}
 use Rattle.lists.proofs.Sum.{sum_same, sum_le}
@@ -41,6 +44,12 @@ use Rattle.sizing.proofs.Spent.{whole_curve}
 use Rattle.shaping.proofs.Facts.{join, descending}
 use Rattle.spending.specs.declared.tree.TreeCurve.{TreeCurve}
 use Rattle.spending.specs.TreeHeld.{TreeArrays, TreeHeld, tree_plan, RunsFound, CurveFound}
+
+-- the sum of the first n numbers of a list, as std has it
+sum_taken : (xs : List ℕ) (n : ℕ) → n ≤ length xs → sum_listed (take n xs) ≡ sum n (λ (g : ℕ). get_or xs g 0)
+unfolding sum
+sum_taken xs zero l = refl
+sum_taken xs (suc n) l = rw (take-suc xs n 0 (omega arith)) (sum_by-append (λ (x : ℕ). x) (take n xs) (get_or xs n 0 ∷ []) ∙ omega (arith, sum_taken xs n (omega arith)))
 
 module _ {B : Block} {n : ℕ} {A : TreeArrays} (h : TreeHeld B n A) where
   abbrev heads : ℕ → ℕ → Head
@@ -129,6 +138,9 @@ module _ {B : Block} {n : ℕ} {A : TreeArrays} (h : TreeHeld B n A) where
 
   pub saved_is : {x : List ℕ} {r : ℕ} → ListSaving n A.counts A.step_widths A.drops A.inputs x r → r ≡ saving B x
   saved_is s = s.of_all B gains_held h.held.activity
+
+  pub steps_counted : {steps : ℕ} → steps ≡ sum_listed (take n A.counts) → steps ≡ sum n (λ (g : ℕ). get_or A.counts g 0)
+  steps_counted e = e ∙ sum_taken A.counts n h.counts_long
 
   -- the steps counted are the block's
   pub steps_are : sum n (λ (g : ℕ). get_or A.counts g 0) ≡ step_count B

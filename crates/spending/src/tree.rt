@@ -1,7 +1,6 @@
 // The curve and the best increases of a block whose tree stands in words.
-ghost use Rattle.std.specs.Prelude.{◌≡◌, ℕ, ◌≤◌, ◌<◌, length, get_or};
-ghost use Rattle.lists.specs.Sum.{sum};
-ghost use Rattle.model.specs.Limits.{max_gates, max_steps, max_pairs, max_time};
+ghost use Rattle.std.specs.Prelude.{◌≡◌, ◌≤◌, length, sum};
+ghost use Rattle.model.specs.Limits.{max_gates, max_pairs, max_time};
 ghost use Rattle.model.specs.Block.{Block};
 ghost use Rattle.spending.specs.TreeHeld.{tree_arrays, TreeHeld, RunsFound, CurveFound, IncreasesFound};
 
@@ -10,7 +9,6 @@ use blockwords::gathering::gather;
 use gains::saving::list_saving;
 use heads::head_words::ALL_HEADS;
 use model::limits::{GateNumbers, MAX_PAIRS, StepNumbers};
-use ordering::marking::at;
 use planting::MAX_NODES;
 use planting::tree::Tree;
 use saving_curve::count::count_off;
@@ -26,20 +24,14 @@ pub struct TreeCurve {
 }
 
 // More ticks than all steps of a block have.
-const ALL_TICKS: u32 = 4_294_967_295;
+const ALL_TICKS: u32 = u32::MAX;
 
-// How many steps n gates have together.
-fn step_count(n: usize, counts: &[u32]) -> usize
-    requires { (n ≤ max_gates) × (n ≤ length counts.now) × ((g : ℕ) → g < n → get_or counts.now g 0 ≤ max_steps) }
-    ensures { result ≡ sum n (λ (g : ℕ). get_or counts.now g 0) }
+// How many steps gates with these counts have together.
+fn step_count(counts: &[u32]) -> usize
+    requires { length counts.now ≤ max_gates }
+    ensures { result ≡ sum counts.now }
 {
-    let mut steps: usize = 0;
-    let mut g: usize = 0;
-    while g < n {
-        steps += at(counts, g);
-        g += 1;
-    }
-    steps
+    counts.iter().map(|count| *count as usize).sum()
 }
 
 // The increases after `ticks` ticks from the raised start, at most a run a step, and the pairs of the curve of the runs to the front of the two slices. Answers the saving at start and the number of pairs.
@@ -66,8 +58,8 @@ fn tree_runs(
     let mut lengths = [0u32; MAX_NODES];
     let mut heads = [0u64; ALL_HEADS];
     start(&block, tree, delays, &mut lengths, increases, &mut heads);
-    let saving = list_saving(n as usize, counts, step_widths, drops, inputs, &*increases);
-    let steps = step_count(n as usize, counts);
+    let saving = list_saving(n as usize, counts, step_widths, drops, inputs, increases);
+    let steps = step_count(&counts[..n as usize]);
     let pairs = spend_ticks(
         tree.count - 1,
         ticks,

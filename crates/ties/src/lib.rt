@@ -2,7 +2,7 @@
 // A head's gain and rank are one number, its key, so that one comparison tells which of two heads comes first.
 #![tactic(auto)]
 
-ghost use Rattle.std.specs.Prelude.{◌≡◌, ◌+◌, ◌-◌, ◌/◌, ◌%◌, ◌<◌, ◌^◌, min, max};
+ghost use Rattle.std.specs.Prelude.{◌≡◌, ◌+◌, ◌-◌, ◌/◌, ◌%◌, ◌<◌, ◌^◌};
 ghost use Rattle.optimum.specs.Head.{no_head, rank as ranking, leads as comes_first, best_of, beside as side_by_side};
 ghost use Rattle.ties.specs.Code.{ranks, head_of};
 

@@ -3,17 +3,5 @@ use native.Mathlib.Omega.{arith}
 use Rattle.spending.proofs.TreeLaws.{curve_found}
 use Rattle.spending.proofs.tree.tree_curve.Goals as goal
 
-pub tree_runs-requires : goal.tree_runs-requires
-tree_runs-requires c = c.requires
-
-pub shape_of-increases : goal.shape_of-increases
-shape_of-increases c = c.tree_runs.auto.increases
-
-pub shape_of-pair_widths : goal.shape_of-pair_widths
-shape_of-pair_widths c = c.tree_runs.auto.pair_widths
-
-pub shape_of-pair_gains : goal.shape_of-pair_gains
-shape_of-pair_gains c = c.tree_runs.auto.pair_gains
-
 pub returns : goal.returns
 returns c = λ B held. curve_found held (c.tree_runs.ensures B held) (omega arith) c.requires.max_pairs_in_bounds.0 c.requires.max_pairs_in_bounds.1 c.tree_runs.auto.pair_widths c.tree_runs.auto.pair_gains

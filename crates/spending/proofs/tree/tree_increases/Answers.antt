@@ -13,8 +13,5 @@ count_off-requires c =
 pub overflow_add-result : goal.overflow_add-result
 overflow_add-result c = omega (arith, sum_fits c.requires.tree_held.1 (c.tree_runs-found.ensures c.requires.tree_held.0 c.requires.tree_held.1) c.count_off.ensures c.requires.increases_len.1)
 
-pub shape_of-increases : goal.shape_of-increases
-shape_of-increases c = c.tree_runs-found.auto.increases
-
 pub returns : goal.returns
 returns c = λ B held. increases_found held (c.tree_runs-found.ensures B held) c.count_off.ensures

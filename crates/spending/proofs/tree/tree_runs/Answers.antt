@@ -1,9 +1,10 @@
 -- `spending::tree::tree_runs` meets its contract: ticks spent from the raised start on, and their runs noted. Assumes nothing.
 use mathlib.Core.Path.{refl, ◌∙◌}
 use native.Mathlib.Omega.{arith}
+use lib.Seq.{length-take-le}
 use Rattle.planting.proofs.HeldNodes.{kinds_held}
 use Rattle.heads.proofs.Gathering.{steps_held}
-use Rattle.spending.proofs.TreeLaws.{gates_few, counts_small, steps_lent, measurable, earnable, steps_few}
+use Rattle.spending.proofs.TreeLaws.{gates_few, counts_small, steps_lent, measurable, earnable, steps_few, steps_counted}
 use Rattle.spending.proofs.PlanLaws.{can_start, started, can_spend, spent}
 use Rattle.spending.proofs.tree.tree_runs.Goals as goal
 
@@ -17,22 +18,13 @@ pub list_saving-saving-requires : goal.list_saving-saving-requires
 list_saving-saving-requires c = earnable c.requires.tree_held.1 (c.start.auto.increases ∙ c.requires.increases_len)
 
 pub step_count-steps-requires : goal.step_count-steps-requires
-step_count-steps-requires c = (gates_few c.requires.tree_held.1, c.requires.tree_held.1.counts_long, counts_small c.requires.tree_held.1)
+step_count-steps-requires c = omega (arith, gates_few c.requires.tree_held.1, length-take-le c.args.n c.args.counts.now c.requires.tree_held.1.counts_long)
 
 pub overflow_sub-tree : goal.overflow_sub-tree
 overflow_sub-tree c = omega (arith, kinds_held c.args.tree.now, c.requires.tree_held.1.some_node)
 
 pub spend_ticks-pairs-requires : goal.spend_ticks-pairs-requires
-spend_ticks-pairs-requires c = record { curvable = can_spend c.args.tree.now c.requires.tree_held.1 c.gather.ensures c.start.ensures refl c.step_count-steps.ensures; steps_held = steps_held c.gather.ensures (steps_lent c.requires.tree_held.1); steps_in_bounds = (omega (arith, steps_few c.requires.tree_held.1, c.step_count-steps.ensures, c.requires.max_pairs_in_bounds.0), omega (arith, steps_few c.requires.tree_held.1, c.step_count-steps.ensures, c.requires.max_pairs_in_bounds.1)) }
-
-pub shape_of-increases : goal.shape_of-increases
-shape_of-increases c = c.spend_ticks-pairs.auto.increases ∙ c.start.auto.increases
-
-pub shape_of-pair_widths : goal.shape_of-pair_widths
-shape_of-pair_widths c = c.spend_ticks-pairs.auto.pair_widths
-
-pub shape_of-pair_gains : goal.shape_of-pair_gains
-shape_of-pair_gains c = c.spend_ticks-pairs.auto.pair_gains
+spend_ticks-pairs-requires c = record { curvable = can_spend c.args.tree.now c.requires.tree_held.1 c.gather.ensures c.start.ensures refl (steps_counted c.requires.tree_held.1 c.step_count-steps.ensures); steps_held = steps_held c.gather.ensures (steps_lent c.requires.tree_held.1); steps_in_bounds = (omega (arith, steps_few c.requires.tree_held.1, (steps_counted c.requires.tree_held.1 c.step_count-steps.ensures), c.requires.max_pairs_in_bounds.0), omega (arith, steps_few c.requires.tree_held.1, (steps_counted c.requires.tree_held.1 c.step_count-steps.ensures), c.requires.max_pairs_in_bounds.1)) }
 
 pub returns : goal.returns
-returns c = λ B held. record { start = _; at_start = started c.args.tree.now held c.gather.ensures c.start.ensures; saves = c.list_saving-saving.ensures; spent = spent c.args.tree.now held c.gather.ensures refl c.step_count-steps.ensures c.spend_ticks-pairs.ensures }
+returns c = λ B held. record { start = _; at_start = started c.args.tree.now held c.gather.ensures c.start.ensures; saves = c.list_saving-saving.ensures; spent = spent c.args.tree.now held c.gather.ensures refl (steps_counted held c.step_count-steps.ensures) c.spend_ticks-pairs.ensures }
