@@ -4,6 +4,7 @@ use Rattle.planting.proofs.RuledOut.{no_series}
 use Rattle.handout.proofs.WordCalls.{node_room, node, walks, nothing_given, item_node, gate_asked, gate_gave, item_falls, item_kind, item_can, item_renewable, item_done, left_falls, left_can, right_falls, right_can, both_done}
 use Rattle.handout.specs.State.{GaveOut}
 use Rattle.handout.proofs.+parallel_give_out_series_give_out.Goals as goal
+use Rattle.handout.proofs.+parallel_give_out_series_give_out.Goals.{series_give_out-in-Series, series_give_out-in_default}
 
 pub parallel_give_out-kind_at-requires : goal.parallel_give_out-kind_at-requires
 parallel_give_out-kind_at-requires t c = node c.requires.can_give_out
@@ -36,7 +37,19 @@ pub series_give_out-parallel_give_out-requires : goal.series_give_out-parallel_g
 series_give_out-parallel_give_out-requires t c = (item_falls c.requires c.descend-j.ensures c.decreases, (item_kind c.requires c.descend-j.ensures c.kind_at.ensures.number (no_series _ c.in_default.not-Series) c.node_gain.ensures c.if-node_gain-eq0.false, item_can c.requires c.descend-j.ensures))
 
 pub series_give_out-renew_up-requires : goal.series_give_out-renew_up-requires
-series_give_out-renew_up-requires t c = ?
+series_give_out-renew_up-requires t c =
+    let gave : GaveOut c.args.block.now c.args.tree.now c.args.increases.now c.args.heads.now c.match-kind_at.increases c.match-kind_at.heads c.descend-j.result c.args.w c.descend-j.result =
+    elim c.match-kind_at.branch [
+      | series_give_out-in-Series w ↦ rw (w.increases-is, w.heads-is) (gate_gave c.requires c.descend-j.ensures w.in-Series.ensures.number w.in-Series.ensures.gate w.gate_give_out.ensures)
+      | series_give_out-in_default w ↦ rw (w.increases-is, w.heads-is) w.parallel_give_out.ensures
+    ] in
+    item_renewable c.requires c.descend-j.ensures gave
 
 pub series_give_out-returns : goal.series_give_out-returns
-series_give_out-returns t c = ?
+series_give_out-returns t c =
+    let gave : GaveOut c.args.block.now c.args.tree.now c.args.increases.now c.args.heads.now c.match-kind_at.increases c.match-kind_at.heads c.descend-j.result c.args.w c.descend-j.result =
+    elim c.match-kind_at.branch [
+      | series_give_out-in-Series w ↦ rw (w.increases-is, w.heads-is) (gate_gave c.requires c.descend-j.ensures w.in-Series.ensures.number w.in-Series.ensures.gate w.gate_give_out.ensures)
+      | series_give_out-in_default w ↦ rw (w.increases-is, w.heads-is) w.parallel_give_out.ensures
+    ] in
+    item_done c.requires c.descend-j.ensures gave c.renew_up.ensures
