@@ -18,3 +18,6 @@ loop-i-preserved c = lengths_more (measurable_on c.requires c.loop-i.auto.length
 
 pub returns : goal.returns
 returns c = let e : c.loop-i.i ≡ node_count (tree_nodes c.args.tree.now) = all_nodes c.args.tree.now refl c.loop-i.auto.i-end c.loop-i-test.false in rw e at c.loop-i.invariant
+
+pub offset_bounds-lengths-i : goal.offset_bounds-lengths-i
+offset_bounds-lengths-i c = record { fits = omega (arith, node_of_all c.args.tree.now refl c.loop-i-test.true, c.requires.few_nodes) }
