@@ -2,7 +2,7 @@
 ghost use Rattle.std.specs.Prelude.{List, ℕ, ◌≤◌, length};
 ghost use Rattle.model.specs.Limits.{max_pairs};
 ghost use Rattle.model.specs.Answer.{CurveLines, CurveBounds, curve_answer};
-ghost use Rattle.loading.specs.HeldBlock.{Holds, block_in};
+ghost use Rattle.loading.specs.HeldBlock.{HoldsAt, block_at};
 
 use holding::{input_activities_of, start_of};
 use loading::block::HeldBlock;
@@ -13,15 +13,15 @@ use shaping::plant::{NotSeriesParallel, plant_block};
 use spending::tree::tree_curve;
 
 // The curve of the block, whatever its arrival and deadline: its pairs to the front of the two slices.
-// Public for the crates above only: they have shown that the block is a well-formed file's.
+// Public for the crates above only: they have shown that the block, with some arrival and deadline, is a well-formed file's.
 pub fn curve_held(
     block: &HeldBlock,
     widths: &mut [u32],
     gains: &mut [u64],
 ) -> Result<CurveFound, Refusal>
-    requires held { (file : List ℕ) × Holds file block.now }
+    requires held { (file : List ℕ) × (arrival : ℕ) × (deadline : ℕ) × HoldsAt file arrival deadline block.now }
     requires room { (max_pairs ≤ length widths.old) × (max_pairs ≤ length gains.old) }
-    ensures lines { (file : List ℕ) → Holds file block.now → CurveLines (block_in block.now) (record { for_widths = widths.old; for_gains = gains.old }) (record { answer = curve_answer result; memory = record { for_widths = widths.new; for_gains = gains.new } }) }
+    ensures lines { (file : List ℕ) (arrival deadline : ℕ) → HoldsAt file arrival deadline block.now → CurveLines (block_at arrival deadline block.now) (record { for_widths = widths.old; for_gains = gains.old }) (record { answer = curve_answer result; memory = record { for_widths = widths.new; for_gains = gains.new } }) }
     ensures curve_bounds { CurveBounds result gains.new }
 {
     let n = block.gates;

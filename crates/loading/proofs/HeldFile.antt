@@ -15,6 +15,8 @@ use Rattle.ordering.specs.Order.{Order}
 use Rattle.loading.specs.Loads.{block_held}
 use Rattle.loading.proofs.Held.{gates_are}
 use Rattle.loading.specs.HeldFile.{HeldFile}
+use Rattle.loading.specs.declared.block.HeldBlock.{HeldBlock}
+use Rattle.loading.specs.HeldBlock.{Holds, HoldsTimes}
 
 module _ (file : List ℕ) (n m arrival deadline activity : ℕ) (G : GateArrays) (W : WireArrays) (order : List ℕ) where
   abbrev B : Block
@@ -54,3 +56,8 @@ module _ (file : List ℕ) (n m arrival deadline activity : ℕ) (G : GateArrays
   too_short slice well short =
       let count = gates_are file n m arrival deadline activity G W well.end well.reads in
       well_formed B well (fits n (sym count, omega arith) refl)
+
+-- a block that is the file's own has the file's times
+pub times_held : {file : List ℕ} {b : HeldBlock} → Holds file b → HoldsTimes file b
+times_held {b = b} h =
+    record { activity = b.activity; activities = b.activities; counts = b.counts; step_widths = b.step_widths; drops = b.drops; held = h }

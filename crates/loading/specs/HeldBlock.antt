@@ -17,9 +17,12 @@ gates_of b = gate_arrays b.delays b.activities b.counts b.step_widths b.drops
 abbrev pub wires_of : HeldBlock → WireArrays
 wires_of b = wire_arrays b.sources b.targets b.wire_delays
 
--- the block
+-- the block, with this arrival and deadline; with its own
+abbrev pub block_at : ℕ → ℕ → HeldBlock → Block
+block_at arrival deadline b = block_held b.gates b.wires arrival deadline b.activity (gates_of b) (wires_of b)
+
 abbrev pub block_in : HeldBlock → Block
-block_in b = block_held b.gates b.wires b.arrival b.deadline b.activity (gates_of b) (wires_of b)
+block_in b = block_at b.arrival b.deadline b
 
 -- no gate and no wire: 0 everywhere
 abbrev pub no_block : HeldBlock
@@ -41,9 +44,21 @@ no_block =
       order = replicate max_gates 0;
     }
 
--- the file is well-formed and the block is its own, with an order of its gates along the wires
+-- the file is well-formed and the block with this arrival and deadline is its own, with an order of its gates along the wires; the block is its own
+abbrev pub HoldsAt : List ℕ → ℕ → ℕ → HeldBlock → Type 0
+HoldsAt file arrival deadline b = HeldFile file b.gates b.wires arrival deadline b.activity (gates_of b) (wires_of b) b.order
+
 abbrev pub Holds : List ℕ → HeldBlock → Type 0
-Holds file b = HeldFile file b.gates b.wires b.arrival b.deadline b.activity (gates_of b) (wires_of b) b.order
+Holds file b = HoldsAt file b.arrival b.deadline b
+
+-- The same of its times alone: whatever its activities and its steps, the file's block has its arrival, its deadline, the delays of its gates, and its wires.
+pub record HoldsTimes (file : List ℕ) (b : HeldBlock) : Type 0 where
+  pub activity : ℕ
+  pub activities : List ℕ
+  pub counts : List ℕ
+  pub step_widths : List ℕ
+  pub drops : List ℕ
+  pub held : HeldFile file b.gates b.wires b.arrival b.deadline activity (gate_arrays b.delays activities counts step_widths drops) (wires_of b) b.order
 
 -- The file is well-formed and the block is its own, with an order of its gates along the wires in the first elements of `order`, as many as there are gates, whose others are 0; or the refusal is the first of 1 to 9 that fits.
 -- Free is what the gate and wire arrays hold beyond the block's gates, steps and wires.

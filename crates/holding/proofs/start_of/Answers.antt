@@ -1,9 +1,11 @@
--- `holding::start_of` meets its contract. Assumes nothing.
+-- `holding::start_of` meets its contract: start is that of the gates and the wires. Assumes nothing.
+use Rattle.model.specs.Slack.{start}
 use Rattle.holding.proofs.HeldLaws.{startable, start_found}
 use Rattle.holding.proofs.start_of.Goals as goal
 
 pub start_time-requires : goal.start_time-requires
-start_time-requires c = startable c.requires.1
+start_time-requires c = startable c.requires.3
 
 pub returns : goal.returns
-returns c = record { start = start_found c.requires.1 c.start_time.ensures; small = c.start_time.ensures.small }
+unfolding start
+returns c = record { start = λ arrival deadline. start_found c.requires.3 c.start_time.ensures; small = c.start_time.ensures.small }

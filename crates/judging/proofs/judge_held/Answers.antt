@@ -32,3 +32,6 @@ list_saving-saving-requires c =
 pub returns : goal.returns
 returns c =
     λ file h. in_time_accepted h c.args.increases.now c.if-increases-n.false c.longest_with-longest.result c.list_saving-saving.result (c.in_default.ensures (block h) c.args.block.now.drops (held h)).0 c.longest_with-longest.ensures c.if-block-arrival.false (saved_is h c.args.increases.now c.if-increases-n.false c.input_activities_of-inputs.result c.input_activities_of-inputs.ensures.long c.input_activities_of-inputs.ensures.activities c.list_saving-saving.result c.list_saving-saving.ensures)
+
+pub input_activities_of-inputs-requires : goal.input_activities_of-inputs-requires
+input_activities_of-inputs-requires c = (c.requires.0, c.args.block.now.arrival, c.args.block.now.deadline, c.requires.1)

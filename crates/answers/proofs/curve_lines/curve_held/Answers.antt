@@ -10,25 +10,25 @@ use Rattle.answers.proofs.Lines.{curve_line, curve_bounds}
 use Rattle.answers.proofs.curve_lines.curve_held.Goals as goal
 
 pub plant_block-planted-requires : goal.plant_block-planted-requires
-plant_block-planted-requires c = record { given = (block c.requires.held.1, given c.requires.held.1); wires_long = wires_long c.requires.held.1; nodes_long = omega (arith, c.new-tree.ensures.long) }
+plant_block-planted-requires c = record { given = (block c.requires.held.3, given c.requires.held.3); wires_long = wires_long c.requires.held.3; nodes_long = omega (arith, c.new-tree.ensures.long) }
 
 pub returns-in-Err : goal.returns-in-Err
-returns-in-Err c = record { lines = (λ file h. fits _ (rw c.in-Err.is at (c.plant_block-planted.ensures.planted (block h) (given h))).0 refl); curve_bounds = tt }
+returns-in-Err c = record { lines = (λ file arrival deadline h. fits _ (rw c.in-Err.is at (c.plant_block-planted.ensures.planted (block h) (given h))).0 refl); curve_bounds = tt }
 
 pub overflow_cast-n : goal.overflow_cast-n
-overflow_cast-n c = omega (arith, (the_lent c.requires.held.1).gates)
+overflow_cast-n c = omega (arith, (the_lent c.requires.held.3).gates)
 
 pub slice_bounds-tree_curve-end : goal.slice_bounds-tree_curve-end
-slice_bounds-tree_curve-end c = sym (length-take-le _ _ (omega (arith, c.requires.held.1.delays_long, (the_lent c.requires.held.1).gates)))
+slice_bounds-tree_curve-end c = sym (length-take-le _ _ (omega (arith, c.requires.held.3.delays_long, (the_lent c.requires.held.3).gates)))
 
 pub slice_bounds-increases-end : goal.slice_bounds-increases-end
-slice_bounds-increases-end c = omega (arith, (the_lent c.requires.held.1).gates)
+slice_bounds-increases-end c = omega (arith, (the_lent c.requires.held.3).gates)
 
 pub slice_bounds-tree_curve-end-2 : goal.slice_bounds-tree_curve-end-2
-slice_bounds-tree_curve-end-2 c = sym (length-take-le _ _ (omega (arith, (the_lent c.requires.held.1).gates)))
+slice_bounds-tree_curve-end-2 c = sym (length-take-le _ _ (omega (arith, (the_lent c.requires.held.3).gates)))
 
 pub tree_curve-curve-requires : goal.tree_curve-curve-requires
-tree_curve-curve-requires c = record { tree_held = (block c.requires.held.1, (tree_held c.requires.held.1 (rw c.in_default.is at (c.plant_block-planted.ensures.planted (block c.requires.held.1) (given c.requires.held.1))) _ c.input_activities_of-inputs.ensures.long c.input_activities_of-inputs.ensures.activities c.start_of-start.ensures.start c.start_of-start.ensures.small)); increases_len = length-take-le _ _ (omega (arith, (the_lent c.requires.held.1).gates)); max_pairs_in_bounds = c.requires.room }
+tree_curve-curve-requires c = record { tree_held = (block c.requires.held.3, (tree_held c.requires.held.3 (rw c.in_default.is at (c.plant_block-planted.ensures.planted (block c.requires.held.3) (given c.requires.held.3))) _ c.input_activities_of-inputs.ensures.long c.input_activities_of-inputs.ensures.activities (c.start_of-start.ensures.start _ _) c.start_of-start.ensures.small)); increases_len = length-take-le _ _ (omega (arith, (the_lent c.requires.held.3).gates)); max_pairs_in_bounds = c.requires.room }
 
 pub shape_of-widths : goal.shape_of-widths
 shape_of-widths c = c.tree_curve-curve.auto.pair_widths
@@ -37,7 +37,7 @@ pub shape_of-gains : goal.shape_of-gains
 shape_of-gains c = c.tree_curve-curve.auto.pair_gains
 
 pub returns : goal.returns
-returns c = record { lines = (λ file h. curve_line h (tree_held h (rw c.in_default.is at (c.plant_block-planted.ensures.planted (block h) (given h))) _ c.input_activities_of-inputs.ensures.long c.input_activities_of-inputs.ensures.activities c.start_of-start.ensures.start c.start_of-start.ensures.small).fits (c.tree_curve-curve.ensures (block h) (tree_held h (rw c.in_default.is at (c.plant_block-planted.ensures.planted (block h) (given h))) _ c.input_activities_of-inputs.ensures.long c.input_activities_of-inputs.ensures.activities c.start_of-start.ensures.start c.start_of-start.ensures.small)) c.start_of-start.ensures.start); curve_bounds = curve_bounds (tree_held c.requires.held.1 (rw c.in_default.is at (c.plant_block-planted.ensures.planted (block c.requires.held.1) (given c.requires.held.1))) _ c.input_activities_of-inputs.ensures.long c.input_activities_of-inputs.ensures.activities c.start_of-start.ensures.start c.start_of-start.ensures.small) (c.tree_curve-curve.ensures (block c.requires.held.1) (tree_held c.requires.held.1 (rw c.in_default.is at (c.plant_block-planted.ensures.planted (block c.requires.held.1) (given c.requires.held.1))) _ c.input_activities_of-inputs.ensures.long c.input_activities_of-inputs.ensures.activities c.start_of-start.ensures.start c.start_of-start.ensures.small)) }
+returns c = record { lines = (λ file arrival deadline h. curve_line h (tree_held h (rw c.in_default.is at (c.plant_block-planted.ensures.planted (block h) (given h))) _ c.input_activities_of-inputs.ensures.long c.input_activities_of-inputs.ensures.activities (c.start_of-start.ensures.start _ _) c.start_of-start.ensures.small).fits (c.tree_curve-curve.ensures (block h) (tree_held h (rw c.in_default.is at (c.plant_block-planted.ensures.planted (block h) (given h))) _ c.input_activities_of-inputs.ensures.long c.input_activities_of-inputs.ensures.activities (c.start_of-start.ensures.start _ _) c.start_of-start.ensures.small)) (c.start_of-start.ensures.start _ _)); curve_bounds = curve_bounds (tree_held c.requires.held.3 (rw c.in_default.is at (c.plant_block-planted.ensures.planted (block c.requires.held.3) (given c.requires.held.3))) _ c.input_activities_of-inputs.ensures.long c.input_activities_of-inputs.ensures.activities (c.start_of-start.ensures.start _ _) c.start_of-start.ensures.small) (c.tree_curve-curve.ensures (block c.requires.held.3) (tree_held c.requires.held.3 (rw c.in_default.is at (c.plant_block-planted.ensures.planted (block c.requires.held.3) (given c.requires.held.3))) _ c.input_activities_of-inputs.ensures.long c.input_activities_of-inputs.ensures.activities (c.start_of-start.ensures.start _ _) c.start_of-start.ensures.small)) }
 
 pub shared_ref_as_front-tree_curve : goal.shared_ref_as_front-tree_curve
-shared_ref_as_front-tree_curve c = (the_lent c.requires.held.1).gates
+shared_ref_as_front-tree_curve c = (the_lent c.requires.held.3).gates

@@ -6,4 +6,7 @@ pub returns-in_err-block-clause-answers_curve : goal.returns-in_err-block-clause
 returns-in_err-block-clause-answers_curve c = passed_up _ c.from_residual.result c.in_err-block.field-0.0 c.from_residual.ensures.1 c.in_err-block.ensures
 
 pub returns-clause-answers_curve : goal.returns-clause-answers_curve
-returns-clause-answers_curve c = c.curve_with_room.ensures.curve c.args.file.now c.in_ok-block.ensures.0
+returns-clause-answers_curve c = c.curve_with_room.ensures.curve c.args.file.now _ _ c.in_ok-block.ensures.0
+
+pub curve_with_room-requires : goal.curve_with_room-requires
+curve_with_room-requires c = (c.args.file.now, c.in_ok-block.block.arrival, c.in_ok-block.block.deadline, c.in_ok-block.ensures.0)
