@@ -190,7 +190,9 @@ def items(old, new, contracts):
             yield k[0], "theorems", k[1], list(beside("::".join(k), [a[k][1]], [b[k][1]]))
 
 
-def changes(found):
+def changes(found, compared):
+    for label in ("ensures all gone", "fewer ensures", "more requires", "no longer pub"):
+        yield f"- {label}: {', '.join(f'`{name}`' for name in compared[label]) or 'none'}"
     by = collections.defaultdict(lambda: collections.defaultdict(list))
     for crate, what, _, lines in found:
         if lines:
@@ -216,7 +218,7 @@ def main(argv):
     old, new = sorted(design_places.places(start)), sorted(design_places.places("."))
     with tempfile.TemporaryDirectory() as folder:
         extract(start, folder)
-        found = list(items(folder, ".", contracts))
+        found, compared = list(items(folder, ".", contracts)), contracts.compare(folder, ".")
     if argv[:1] == ["--check"]:
         kept = list(kept_items(page))
         for p in new:
@@ -227,7 +229,7 @@ def main(argv):
             if what.endswith("gone") and what != "lemmas gone" and not re.search(rf"`[^`]*\b{re.escape(name.split('::')[-1])}\b[^`]*`", by_hand):
                 print(f"no word of what is gone: {what} {crate} {name}")
         return 0
-    for name, part in (("counts", counts(start, old, new)), ("places", listed(old, new)), ("table", table(old, new, page)), ("changes", changes(found))):
+    for name, part in (("counts", counts(start, old, new)), ("places", listed(old, new)), ("table", table(old, new, page)), ("changes", changes(found, compared))):
         text = "\n".join(part)
         page = re.sub(rf"(<!-- {name}\b[^\n]*-->\n).*?(?=<!-- end -->)", lambda m: m.group(1) + text + "\n", page, flags=re.S)
     with open(PAGE, "w", encoding="utf-8") as f:

@@ -3,14 +3,14 @@
 
 usage: python3 tools/design_places.py [DIR | COMMIT]            each place, then the counts; the top of the repository if nothing is given
        python3 tools/design_places.py --counts [DIR | COMMIT]   the counts alone
-       python3 tools/design_places.py --keys [DIR | COMMIT]     each place without its line, so that two states can be compared (comm)
 
 What is a place, in crates/*/src/*.rt (comments do not count but where they are named):
-1 answer      an enum of two variants, one of them without values or called Refused; an enum of which half the variants and not all have a refusal's
-              name; an enum called Answer
+1 answer      an enum of two variants, one without values or called Refused; one of whose variants half, not all, are named as refusals; one called Answer
+  flag        a struct with a field that is a flag (a bool) or a number for a kind or a refusal (called kind or number) beside values,
+              or of which a comment says that 0 in a field means none
   none        a function whose comment says what number it answers where there is none, or where a thing does not fit
   number      a function that answers a number for a kind or a fault: its name has the word kind, fault or run_of, or its clause uses one of these definitions
-2 twin        two or more functions whose bodies (12 tokens at least) are equal when names, types and numbers are replaced in the order in which they come
+2 twin        each of two or more functions whose bodies (12 tokens at least) are equal when names, types and numbers are replaced, in their order
   library     a body or a line that is one method of the library: min, max, saturating_sub, get, fill, copy, `as`, from, div_ceil, MAX
 3 while       a while loop that adds 1 to an index in its condition; other loop: every other while and loop, but while let
 4 bytes       arithmetic by 256 that takes a number apart or puts it together
@@ -36,7 +36,7 @@ import tarfile
 
 WORD = re.compile(r"[A-Za-z_]\w*|\d[\w]*|[^\s\w]")
 KEEP = set("if else while for in let mut return match loop break continue true false as fn usize u8 u32 u64 i32 bool None Some Ok Err self".split())
-POINTS = {"1": ("answer", "none", "number"), "2": ("twin", "library"), "3": ("while", "other loop"), "4": ("bytes", "print", "convert", "compare"),
+POINTS = {"1": ("answer", "flag", "none", "number"), "2": ("twin", "library"), "3": ("while", "other loop"), "4": ("bytes", "print", "convert", "compare"),
           "5": ("many", "group", "fact"), "6": ("words", "arithmetic", "parallel", "links"), "7": ("kind",), "8": ("answer in proofs", "repeated in proofs")}
 Function = collections.namedtuple("Function", "path line name comment params result clauses body at")
 
@@ -134,8 +134,7 @@ LIBRARY = [(re.compile(p), n) for p, n in (
 
 def loops(f):
     for m in re.finditer(r"\b(while|loop)\b(?! let\b)([^{]*)\{", f.body):
-        body = f.body[m.end() - 1 : closing(f.body, m.end() - 1)]
-        counted = [x for x in re.findall(r"\b(\w+) \+= 1;", body) if re.search(rf"\b{x}\b", m.group(2))]
+        counted = [x for x in re.findall(r"\b(\w+) \+= 1;", f.body[m.end() : closing(f.body, m.end() - 1)]) if re.search(rf"\b{x}\b", m.group(2))]
         yield ("while" if counted else "other loop"), f.at + f.body.count("\n", 0, m.start()), " ".join((m.group(1) + m.group(2)).split())
 
 
@@ -154,9 +153,14 @@ def places(where):
     every = [f for p, t in sources.items() for f in functions(p, t)]
     variants = {}
     for path, text in sources.items():
-        for m in re.finditer(r"\benum (\w+)[^{]*\{", code_of(text)):
-            body = code_of(text)[m.end() : closing(code_of(text), m.end() - 1) - 1]
-            variants[path, text.count("\n", 0, m.start()) + 1, m.group(1)] = split(body)
+        for m in re.finditer(r"\b(enum|struct) (\w+)[^{;]*\{", code_of(text)):
+            at, parts = (path, text.count("\n", 0, m.start()) + 1, m.group(2)), split(code_of(text)[m.end() : closing(code_of(text), m.end() - 1) - 1])
+            if m.group(1) == "enum":
+                variants[at] = parts
+            if m.group(1) == "struct" and "0 says that there is none" in comment_before(text, m.start()):
+                yield "1", "flag", *at, "0 for none"
+            for field in [p for p in parts if m.group(1) == "struct" and re.search(r"\b(?:(?:kind|number): (?:[ui]\d+|\[u)|\w+: bool)", p)]:
+                yield "1", "flag", *at, field.split(":")[0].split()[-1]
     name = lambda v: re.match(r"(?:#\[[^\]]*\]\s*)*(\w+)", v).group(1)  # noqa: E731
     refusals = {name(v) for (p, _, n), vs in variants.items() if n == "Refusal" for v in vs}
     for (path, line, enum), vs in variants.items():
@@ -173,9 +177,8 @@ def places(where):
         tokens = normal(f.body)
         if len(tokens) >= 12:
             bodies[" ".join(tokens)].append(f)
-        for pattern, method in LIBRARY:
-            if pattern.search(flat):
-                yield "2", "library", f.path, f.line, f.name, method
+        for method in [n for pattern, n in LIBRARY if pattern.search(flat)][:1]:
+            yield "2", "library", f.path, f.line, f.name, method
         for what, line, text in loops(f):
             yield "3", what, f.path, line, f.name, text
         if re.search(r"\b256 ?\*|\* ?256\b|[/%] ?256\b|BYTE\b", f.body):
@@ -232,16 +235,13 @@ def places(where):
 
 
 def main(argv):
-    only = [a for a in argv if a.startswith("--")]
-    found = sorted(places(([a for a in argv if not a.startswith("--")] or ["."])[0]))
-    if "--counts" not in only:
-        for point, what, path, line, at, text in found:
-            if what != "answer in proofs":
-                print(f"{point} {what}: {path}{'' if '--keys' in only else f':{line}'} {at}: {text}")
-    if "--keys" not in only:
-        for point, kinds in POINTS.items():
-            counts = [(kind, sum(p[0] == point and p[1] == kind for p in found)) for kind in kinds]
-            print(f"point {point}: {sum(n for _, n in counts if point != '8') or counts[0][1]} ({', '.join(f'{kind} {n}' for kind, n in counts)})")
+    found = sorted(places(([a for a in argv if a != "--counts"] or ["."])[0]))
+    for point, what, path, line, at, text in found:
+        if what != "answer in proofs" and "--counts" not in argv:
+            print(f"{point} {what}: {path}:{line} {at}: {text}")
+    for point, kinds in POINTS.items():
+        counts = [(kind, sum(p[0] == point and p[1] == kind for p in found)) for kind in kinds]
+        print(f"point {point}: {sum(n for _, n in counts if point != '8') or counts[0][1]} ({', '.join(f'{kind} {n}' for kind, n in counts)})")
     return 0
 
 
