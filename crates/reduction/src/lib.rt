@@ -27,14 +27,15 @@ struct Reduction {
     queue: Queue,
 }
 
-// The tree of a block, by its root among the nodes.
+// A block reduced: the nodes of its tree and the root among them. One gate without a wire has none.
+// A plain struct, with the verdict inside: a verdict around the nodes would be taken apart by copies of them, on the stack of the calls for C.
 #[derive(Drop)]
-pub struct RootedTree {
-    pub root: usize,
+pub struct Reduced {
+    pub root: Result<Option<usize>, NotSeriesParallel>,
     pub nodes: TreeNodes,
 }
 
-// Reduces a network of n gates and m wires, given by their ends and delays, to its tree. One gate without a wire has none.
+// Reduces a network of n gates and m wires, given by their ends and delays, to its tree.
 // Public for the crates above only: they have shown that the wires are those of a network.
 pub fn reduce_network(
     n: usize,
@@ -42,21 +43,24 @@ pub fn reduce_network(
     sources: &[u32],
     targets: &[u32],
     delays: &[u32],
-) -> Result<Option<RootedTree>, NotSeriesParallel>
+) -> Reduced
     requires given { Given n m sources.now targets.now delays.now }
     requires wires_long { (m ≤ length sources.now) × (m ≤ length targets.now) × (m ≤ length delays.now) }
     requires few { (n ≤ max_gates) × (m ≤ max_wires) }
-    ensures { (N : Block) → Network N → Wired N n m sources.now targets.now delays.now → Answered N result }
+    ensures { (N : Block) → Network N → Wired N n m sources.now targets.now delays.now → Answered N result.nodes result.root }
 {
     if n == 1 {
-        return Ok(None);
+        return Reduced {
+            root: Ok(None),
+            nodes: TreeNodes::leaves(0, delays),
+        };
     }
     let wires = Wires::new(n, m, sources);
     let mut reduction = Reduction::new(&wires, targets, delays);
     reduction.reduce(&wires);
-    let root = reduction.slots.pick(m, n - 1)?;
-    Ok(Some(RootedTree {
+    let root = reduction.slots.pick(m, n - 1).map(Some);
+    Reduced {
         root,
         nodes: reduction.nodes,
-    }))
+    }
 }

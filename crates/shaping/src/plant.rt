@@ -24,16 +24,17 @@ pub fn plant_block(
     requires tree_words_in_bounds { tree_words ≤ length tree.old }
     ensures planted { (B : Block) → Given B n m sources.now targets.now wire_delays.now → PlantedOrNot B result tree.old tree.new }
 {
-    match reduce_network(n, m, sources, targets, wire_delays)? {
+    let reduced = reduce_network(n, m, sources, targets, wire_delays);
+    match reduced.root? {
         None => Ok(plant_lone(0, tree)),
-        Some(found) => Ok(plant(
-            found.root,
+        Some(root) => Ok(plant(
+            root,
             0,
             (n - 1) as u32,
-            &found.nodes.kind,
-            &found.nodes.left,
-            &found.nodes.gate,
-            &found.nodes.right,
+            &reduced.nodes.kind,
+            &reduced.nodes.left,
+            &reduced.nodes.gate,
+            &reduced.nodes.right,
             tree,
         )),
     }
