@@ -73,6 +73,7 @@ impl Slots {
         ensures live_after { self.new.live ≡ set self.old.live j 0 }
         ensures to_after { self.new.to ≡ set self.old.to i (get_or self.old.to j 0) }
         ensures top_after { self.new.top ≡ set self.old.top i c }
+        ensures recent_after { self.new.recent ≡ set self.old.recent a i }
     {
         self.live[j] = 0;
         self.to[i] = self.to[j];
@@ -86,6 +87,7 @@ impl Slots {
         ensures live_after { self.new.live ≡ set (set self.old.live i 0) j 0 }
         ensures to_after { self.new.to ≡ self.old.to }
         ensures top_after { self.new.top ≡ set self.old.top l c }
+        ensures recent_after { self.new.recent ≡ set self.old.recent a l }
     {
         self.live[i] = 0;
         self.live[j] = 0;
