@@ -1,20 +1,19 @@
--- The end: what the answer says of the block (`root_found`, `none_found`). Assumes nothing.
-use Rattle.std.specs.Prelude.{Option, Some, None, Result, Ok, Err, IsErrAnd}
-use mathlib.Core.Path.{◌≡◌, refl, sym, ◌∙◌, ap, subst, subst₂}
+-- The end: what the answer says of the block (`picked_answered`). Assumes nothing.
+use Rattle.std.specs.Prelude.{Option, Some, None, Result, Ok, Err, IsOkAnd, MatchResult}
+use mathlib.Core.Path.{◌≡◌, sym, ◌∙◌, ap, subst, subst₂}
 use mathlib.Core.Logic.{inl, inr, ◌↔◌, ⊎_elim}
 use mathlib.Core.List.{List}
 use Prim.Native.Nat.{ℕ, ◌+◌, ◌-◌, ◌≤◌, ◌<◌}
 use native.Mathlib.Omega.{arith}
-use lib.ListN.{length, get_or}
+use lib.ListN.{get_or}
 use Rattle.lists.specs.Search.{Lowest}
 use Rattle.model.specs.Block.{Block, gate_count, first, last}
 use Rattle.model.specs.Part.{Whole, SeriesParallel, built}
 use Rattle.model.specs.Remainder.{Remains}
-use Rattle.model.specs.Answer.{NotSeriesParallelAt}
 use Rattle.parts.specs.Reduction.{Only}
 use Rattle.parts.specs.Slots.{Live, Finished}
 use Rattle.parts.specs.Network.{Network}
-use Rattle.parts.specs.Nodes.{Nodes, Weighed, tree_of}
+use Rattle.parts.specs.Nodes.{Weighed, tree_of}
 use Rattle.parts.specs.Rooted.{Rooted}
 use Rattle.parts.proofs.Verdict.{only_first, only_last, whole, verdict, lone_gate}
 use Rattle.parts.proofs.Remains as Remaining
@@ -22,7 +21,6 @@ use Rattle.slots.specs.Sought.{OnlyLive, OnlyLiveAt, LowestLed}
 use Rattle.slots.specs.Picked.{Picked}
 use Rattle.slots.specs.declared.NotSeriesParallel.{NotSeriesParallel}
 use Rattle.slots.specs.declared.nodes.TreeNodes.{TreeNodes}
-use Rattle.reduction.specs.declared.RootedTree.{RootedTree}
 use Rattle.reduction.specs.Arrays.{Arrays, held}
 use Rattle.reduction.specs.State.{nodes_in}
 use Rattle.reduction.specs.Going.{Going, Ended}
@@ -86,39 +84,32 @@ module _ {N : Block} {n k c : ℕ} {A B : Arrays} (net : Network N) (begin : Goi
 pub lone_answered : {N : Block} {n k : ℕ} {froms tos delays : List ℕ} → Network N → Wired N n k froms tos delays → n ≡ 1 → (gate_count N ≡ 1) × SeriesParallel N
 lone_answered net w e = (w.gates ∙ e, lone_gate net (w.gates ∙ e))
 
--- where the tree's nodes are those of the arrays B
-pub root_found :
-    {N : Block} {n k t : ℕ} {A B : Arrays} {T : TreeNodes}
+-- the answer to what was picked, where the tree's nodes are those of the arrays B
+pub picked_answered :
+    {N : Block} {n k : ℕ} {A B : Arrays} {T : TreeNodes}
     → Network N
     → Going N n k k A
     → Ended n k 0 (n - 1) A B T.count
     → nodes_in T ≡ B.tree
-    → Picked B.lives B.tos B.tops k (n - 1) (Ok t)
-    → Rooted N (nodes_in T) t T.count
-root_found {N} {T = T} net go e s (i, ol, f) = subst₂ (λ M x. Rooted N M x T.count) (sym s) (sym f) (root_answered net go e ol)
-
-pub none_found :
-    {N : Block} {n k c : ℕ} {A B : Arrays} {g : NotSeriesParallel}
-    → Network N
-    → Going N n k k A
-    → Ended n k 0 (n - 1) A B c
     → (n ≡ 1 → ⊥)
-    → Picked B.lives B.tos B.tops k (n - 1) (Err g)
-    → NotSeriesParallelAt N g.gate
-none_found net go e d (none, low) = let unfit = unfit_answered net go e none d in (unfit, lowest_answered net go e unfit low)
-
--- the same where the error is passed on
-pub error_answered : {N : Block} {e : NotSeriesParallel} (r : Result (Option RootedTree) NotSeriesParallel) → IsErrAnd r (λ x. x ≡ e) → NotSeriesParallelAt N e.gate → Answered N r
-error_answered (Ok t) is a = absurd is
-error_answered {N} (Err x) is a = subst (λ y. NotSeriesParallelAt N y.gate) (sym is) a
+    → (r : Result ℕ NotSeriesParallel)
+    → Picked B.lives B.tos B.tops k (n - 1) r
+    → (s : Result (Option ℕ) NotSeriesParallel)
+    → MatchResult r (λ t. IsOkAnd s (λ root. root ≡ Some t)) (λ e. s ≡ Err e)
+    → Answered N T s
+picked_answered {N} {T = T} net go e same d (Ok t) (i, ol, f) (Ok root) m =
+    subst (λ x. Answered N T (Ok x)) (sym m) (subst₂ (λ M x. Rooted N M x T.count) (sym same) (sym f) (root_answered net go e ol))
+picked_answered net go e same d (Ok t) p (Err g) m = absurd m
+picked_answered {N} {T = T} net go e same d (Err g) (none, low) s m =
+    let unfit = unfit_answered net go e none d in subst (Answered N T) (sym m) (unfit, lowest_answered net go e unfit low)
 
 -- accepted: any answer but "not series-parallel"
-abbrev pub Accepted : Result (Option RootedTree) NotSeriesParallel → Type 0
+abbrev pub Accepted : Result (Option ℕ) NotSeriesParallel → Type 0
 Accepted (Ok t) = Unit {0}
 Accepted (Err e) = ⊥
 
 -- Soundness and completeness of an answer in one: accepted exactly when series-parallel.
-pub accepted_iff : (B : Block) (r : Result (Option RootedTree) NotSeriesParallel) → Answered B r → Accepted r ↔ SeriesParallel B
-accepted_iff B (Ok (Some t)) a = (λ u. built _ a.whole, λ p. tt)
-accepted_iff B (Ok None) a = (λ u. a.1, λ p. tt)
-accepted_iff B (Err e) a = (absurd, a.0)
+pub accepted_iff : (B : Block) (T : TreeNodes) (r : Result (Option ℕ) NotSeriesParallel) → Answered B T r → Accepted r ↔ SeriesParallel B
+accepted_iff B T (Ok (Some t)) a = (λ u. built _ a.whole, λ p. tt)
+accepted_iff B T (Ok None) a = (λ u. a.1, λ p. tt)
+accepted_iff B T (Err e) a = (absurd, a.0)

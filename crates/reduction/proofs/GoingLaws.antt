@@ -228,13 +228,20 @@ turned_on : {N : Block} {n k c r : ℕ} {A B : Arrays} → Network N → Going N
 turned_on {N} {n} {k} net go rd (stays e f) = (subst₂ (Going N n k) (sym f) (sym e) go, subst₂ (Ready n k) (sym f) (sym e) rd)
 turned_on net go rd (goes m i j ch w) = let o = went_on net go rd ch w in (o.going, o.ready)
 
+turned_kinds : {k c r : ℕ} {A B : Arrays} → Turned k c A B r → length B.tree.kinds ≡ length A.tree.kinds
+unfolding joined taken_up
+turned_kinds (stays e f) = ap (λ X. length X.tree.kinds) e
+turned_kinds {c = c} {A = A} (goes m i j ch (by_joining none e f)) = ap (λ X. length X.tree.kinds) e ∙ length-set A.tree.kinds c 1
+turned_kinds {c = c} {A = A} (goes m i j ch (by_taking_up l h ld e f)) = ap (λ X. length X.tree.kinds) e ∙ length-set (set A.tree.kinds c 1) (c + 1) 2 ∙ length-set A.tree.kinds c 1
+
 -- From the arrays A with c nodes to the arrays B with d nodes, what holds of a moment of the reduction is kept.
 pub record Onwards (n k c d : ℕ) (A B : Arrays) : Type 0 where
   pub ready : Ready n k d B
+  pub kinds_kept : length B.tree.kinds ≡ length A.tree.kinds
   pub keeps : (N : Block) → Network N → Going N n k c A → Going N n k d B
 
 pub onwards_start : {n k c : ℕ} {A : Arrays} → Ready n k c A → Onwards n k c c A A
-onwards_start rd = record { ready = rd; keeps = λ N net go. go }
+onwards_start rd = record { ready = rd; kinds_kept = refl; keeps = λ N net go. go }
 
 pub onwards_sound : {n k c d : ℕ} {A B : Arrays} → Sound n k c A → Onwards n k c d A B → Sound n k d B
 onwards_sound s o = record { block = s.block; network = s.network; going = o.keeps s.block s.network s.going }
@@ -244,6 +251,7 @@ unfolding onwards_sound
 onwards_turn s o t =
     record {
       ready = (turned_on s.network (onwards_sound s o).going o.ready t).1;
+      kinds_kept = turned_kinds t ∙ o.kinds_kept;
       keeps = λ N net go. (turned_on net (o.keeps N net go) o.ready t).0;
     }
 
@@ -268,6 +276,7 @@ pub turns_end : {n k a b c : ℕ} {A B : Arrays} {ins outs : List ℕ} → k ≤
 turns_end {n} {B = B} few o t none =
     record {
       ready = o.ready;
+      kinds_kept = o.kinds_kept;
       stands =
           λ N net go.
           let h = o.keeps N net go in

@@ -1,5 +1,5 @@
 -- What holds of the arrays while gates go, and what a turn of the queue does.
-use Rattle.std.specs.Prelude.{◌≡◌, List, ℕ, ◌+◌, ◌*◌, ◌≤◌, ◌<◌, get_or}
+use Rattle.std.specs.Prelude.{◌≡◌, List, ℕ, ◌+◌, ◌*◌, ◌≤◌, ◌<◌, length, get_or}
 use Rattle.model.specs.Block.{Block, gate_count, Joined}
 use Rattle.parts.specs.Slots.{Finished}
 use Rattle.parts.specs.Invariant.{Reducing}
@@ -58,7 +58,8 @@ pub record Visited (n k a b c head tail : ℕ) (A B : Arrays) (ins outs queue pl
   pub tallied : Tallied n k B ins outs
   pub queued : Queued n a b ins outs queue places (head + 1) (tail_after c r tail)
 
--- The reduction's end, from the arrays A to the arrays B with r nodes: of whatever network A was the beginning, B is a moment at which no gate but a and b can go.
+-- The reduction's end, from the arrays A to the arrays B with r nodes: of whatever network A was the beginning, B is a moment at which no gate but a and b can go. The arrays of the nodes are as long as before.
 pub record Ended (n k a b : ℕ) (A B : Arrays) (r : ℕ) : Type 0 where
   pub ready : Ready n k r B
+  pub kinds_kept : length B.tree.kinds ≡ length A.tree.kinds
   pub stands : (N : Block) → Network N → Going N n k k A → Going N n k r B × Finished (held k B) a b

@@ -1,5 +1,5 @@
 -- The reduction's state as it stands in its structs.
-use Rattle.std.specs.Prelude.{ℕ, ◌+◌, ◌-◌, ◌*◌, ◌≤◌}
+use Rattle.std.specs.Prelude.{◌+◌, ◌-◌, ◌*◌, ◌≤◌}
 use Rattle.parts.specs.Nodes.{Nodes}
 use Rattle.slots.specs.declared.nodes.TreeNodes.{TreeNodes}
 use Rattle.slots.specs.declared.wires.Wires.{Wires}

@@ -5,7 +5,7 @@ mod begin;
 mod take;
 mod turns;
 
-ghost use Rattle.std.specs.Prelude.{◌≤◌, length};
+ghost use Rattle.std.specs.Prelude.{◌≡◌, ◌≢◌, ◌+◌, ◌≤◌, length};
 ghost use Rattle.model.specs.Limits.{max_gates, max_wires};
 ghost use Rattle.model.specs.Block.{Block};
 ghost use Rattle.parts.specs.Network.{Network};
@@ -18,23 +18,26 @@ use slots::{NotSeriesParallel, Slots};
 use tallies::queue::Queue;
 use tallies::tally::Tallies;
 
-// What changes while gates go: the slots, the nodes of the tree, the tallies of the gates and the queue in which gates wait for their turn.
+// The state of a reduction: the slots, the nodes of the tree, the tallies of the gates and the queue in which gates wait for their turn.
+// Filled where it stands and never moved: copies of its arrays would add to the stack of the calls for C.
 #[derive(Drop)]
-struct Reduction {
+pub struct Reduction {
     slots: Slots,
-    nodes: TreeNodes,
+    pub nodes: TreeNodes,
     tallies: Tallies,
     queue: Queue,
 }
 
-// The tree of a block, by its root among the nodes.
-#[derive(Drop)]
-pub struct RootedTree {
-    pub root: usize,
-    pub nodes: TreeNodes,
+impl Reduction {
+    pub const EMPTY: Reduction = Reduction {
+        slots: Slots::EMPTY,
+        nodes: TreeNodes::EMPTY,
+        tallies: Tallies::EMPTY,
+        queue: Queue::EMPTY,
+    };
 }
 
-// Reduces a network of n gates and m wires, given by their ends and delays, to its tree. One gate without a wire has none.
+// Reduces a network of n gates and m wires, given by their ends and delays, to its tree: answers the root among the nodes. One gate without a wire has none.
 // Public for the crates above only: they have shown that the wires are those of a network.
 pub fn reduce_network(
     n: usize,
@@ -42,21 +45,19 @@ pub fn reduce_network(
     sources: &[u32],
     targets: &[u32],
     delays: &[u32],
-) -> Result<Option<RootedTree>, NotSeriesParallel>
+    reduction: &mut Reduction,
+) -> Result<Option<usize>, NotSeriesParallel>
     requires given { Given n m sources.now targets.now delays.now }
     requires wires_long { (m ≤ length sources.now) × (m ≤ length targets.now) × (m ≤ length delays.now) }
     requires few { (n ≤ max_gates) × (m ≤ max_wires) }
-    ensures { (N : Block) → Network N → Wired N n m sources.now targets.now delays.now → Answered N result }
+    ensures answered { (N : Block) → Network N → Wired N n m sources.now targets.now delays.now → Answered N reduction.new.nodes result }
+    ensures nodes_long { n ≢ 1 → length reduction.new.nodes.kind ≡ max_wires + (max_gates + max_gates) }
 {
     if n == 1 {
         return Ok(None);
     }
     let wires = Wires::new(n, m, sources);
-    let mut reduction = Reduction::new(&wires, targets, delays);
+    reduction.begin(&wires, targets, delays);
     reduction.reduce(&wires);
-    let root = reduction.slots.pick(m, n - 1)?;
-    Ok(Some(RootedTree {
-        root,
-        nodes: reduction.nodes,
-    }))
+    reduction.slots.pick(m, n - 1).map(Some)
 }

@@ -2,6 +2,7 @@
 -- Assumes nothing.
 use Rattle.std.specs.Prelude.{Result, Ok, Err, IsErrAnd}
 use mathlib.Core.Path.{◌≡◌, refl, sym, ◌∙◌, ap, subst}
+use mathlib.Core.Logic.{◌≢◌}
 use mathlib.Core.List.{List}
 use Prim.Native.Nat.{ℕ, ◌-◌, ◌≤◌}
 use native.Mathlib.Omega.{arith}
@@ -11,7 +12,7 @@ use Rattle.model.specs.Block.{Block, gate_count, first, last}
 use Rattle.model.specs.Part.{SeriesParallel, built}
 use Rattle.model.specs.Part as Part
 use Rattle.model.specs.Answer.{NotSeriesParallelAt}
-use Rattle.parts.specs.Nodes.{Nodes, tree_of}
+use Rattle.parts.specs.Nodes.{Nodes, shape_of, tree_of}
 use Rattle.parts.specs.Network.{Network}
 use Rattle.parts.specs.Rooted.{Rooted}
 use Rattle.parts.proofs.Gates.{part_ends}
@@ -58,6 +59,10 @@ module _ {B : Block} {n m : ℕ} {sources targets wire_delays : List ℕ} (given
 
   root_few : {T : Nodes} {t k : ℕ} → Rooted B T t k → (a b : ℕ) → nodes_of (whole a (tree_of T t) b) ≤ max_nodes
   root_few {T} {t} r a b = omega (arith, few_nodes B (tree_of T t) r.whole (join B given.limits given.sound), given.limits.gates_most)
+
+  -- One gate has no root.
+  pub root_of_several : {T : Nodes} {t k : ℕ} → Rooted B T t k → n ≢ 1
+  root_of_several {T} {t} r e = (part_ends (shape_of (tree_of T t)) (first B) (last B) r.whole.part).differ (omega (arith, given.wired.gates))
 
   -- The root can be copied, and there is room for its tree between two gates.
   pub root_asked : {T : Nodes} {t k : ℕ} (tree : StoredTree) → Rooted B T t k → length T.kinds ≡ max_reduced → max_nodes ≤ length tree.nodes → (a b : ℕ) → Readable T t × Room (plot_of tree) (nodes_of (whole a (tree_of T t) b))

@@ -6,7 +6,7 @@ ghost use Rattle.shaping.specs.PlantedBlock.{Given, WiresLong, PlantedOrNot};
 
 use planting::tree::Tree;
 use planting::{plant, plant_lone};
-use reduction::reduce_network;
+use reduction::{Reduction, reduce_network};
 pub use slots::NotSeriesParallel;
 
 // The tree of a block of n gates and m wires, which stand in the arrays, planted: answers its number of nodes, the last of which is the top. Nodes beyond are as before, and so is the whole tree where the block is not series-parallel.
@@ -24,16 +24,17 @@ pub fn plant_block(
     requires nodes_long { max_nodes ≤ length tree.old.nodes }
     ensures planted { (B : Block) → Given B n m sources.now targets.now wire_delays.now → PlantedOrNot B result tree.old tree.new }
 {
-    match reduce_network(n, m, sources, targets, wire_delays)? {
+    let mut reduction = Reduction::EMPTY;
+    match reduce_network(n, m, sources, targets, wire_delays, &mut reduction)? {
         None => Ok(plant_lone(0, tree)),
-        Some(found) => Ok(plant(
-            found.root,
+        Some(root) => Ok(plant(
+            root,
             0,
             (n - 1) as u32,
-            &found.nodes.kind,
-            &found.nodes.left,
-            &found.nodes.gate,
-            &found.nodes.right,
+            &reduction.nodes.kind,
+            &reduction.nodes.left,
+            &reduction.nodes.gate,
+            &reduction.nodes.right,
             tree,
         )),
     }

@@ -1,2 +1,3 @@
+pub mod SoughtLaws
 pub mod ChainLaws
 pub mod FinishLaws

@@ -9,27 +9,26 @@ use crate::wires::Wires;
 use model::limits::{MAX_GATES, MAX_WIRES};
 
 impl Slots {
+    pub const EMPTY: Slots = Slots {
+        live: [0; MAX_WIRES],
+        to: [0; MAX_WIRES],
+        top: [0; MAX_WIRES],
+        recent: [0; MAX_GATES],
+    };
+
     // A live slot for each of k wires, whose node is the leaf of its number.
-    pub fn laid(k: usize, targets: &[u32]) -> Slots
+    pub fn lay(&mut self, k: usize, targets: &[u32])
         requires { (k ≤ max_wires) × (k ≤ length targets.now) }
-        ensures all_live { (i : ℕ) → i < k → get_or result.live i 0 ≡ 1 }
-        ensures all_to { (i : ℕ) → i < k → get_or result.to i 0 ≡ get_or targets.now i 0 }
-        ensures all_top { (i : ℕ) → i < k → get_or result.top i 0 ≡ i }
+        ensures all_live { (i : ℕ) → i < k → get_or self.new.live i 0 ≡ 1 }
+        ensures all_to { (i : ℕ) → i < k → get_or self.new.to i 0 ≡ get_or targets.now i 0 }
+        ensures all_top { (i : ℕ) → i < k → get_or self.new.top i 0 ≡ i }
+        ensures room { (length self.new.live ≡ max_wires) × (length self.new.to ≡ max_wires) × (length self.new.top ≡ max_wires) }
     {
-        let mut live = [0; MAX_WIRES];
-        live[..k].fill(1);
-        let mut to = [0; MAX_WIRES];
-        to[..k].copy_from_slice(&targets[..k]);
-        let mut top = [0; MAX_WIRES];
         for i in 0..k {
-            top[i] = i as u32;
+            self.top[i] = i as u32;
         }
-        Slots {
-            live,
-            to,
-            top,
-            recent: [0; MAX_GATES],
-        }
+        self.live[..k].fill(1);
+        self.to[..k].copy_from_slice(&targets[..k]);
     }
 
     // Whether slot i is live and leads from a to b.
@@ -74,6 +73,7 @@ impl Slots {
         ensures live_after { self.new.live ≡ set self.old.live j 0 }
         ensures to_after { self.new.to ≡ set self.old.to i (get_or self.old.to j 0) }
         ensures top_after { self.new.top ≡ set self.old.top i c }
+        ensures recent_after { self.new.recent ≡ set self.old.recent a i }
     {
         self.live[j] = 0;
         self.to[i] = self.to[j];
@@ -87,6 +87,7 @@ impl Slots {
         ensures live_after { self.new.live ≡ set (set self.old.live i 0) j 0 }
         ensures to_after { self.new.to ≡ self.old.to }
         ensures top_after { self.new.top ≡ set self.old.top l c }
+        ensures recent_after { self.new.recent ≡ set self.old.recent a l }
     {
         self.live[i] = 0;
         self.live[j] = 0;

@@ -18,22 +18,25 @@ pub struct TreeNodes {
 }
 
 impl TreeNodes {
+    pub const EMPTY: TreeNodes = TreeNodes {
+        count: 0,
+        kind: [0; MAX_NODES],
+        left: [0; MAX_NODES],
+        gate: [0; MAX_NODES],
+        right: [0; MAX_NODES],
+    };
+
     // A leaf for each of k wires.
-    pub fn leaves(k: usize, delays: &[u32]) -> TreeNodes
+    pub fn lay(&mut self, k: usize, delays: &[u32])
         requires { (k ≤ max_wires) × (k ≤ length delays.now) }
-        ensures count { result.count ≡ k }
-        ensures all_leaves { (i : ℕ) → i < k → get_or result.kind i 0 ≡ 0 }
-        ensures all_delays { (i : ℕ) → i < k → get_or result.gate i 0 ≡ get_or delays.now i 0 }
+        ensures count_after { self.new.count ≡ k }
+        ensures all_leaves { (i : ℕ) → i < k → get_or self.new.kind i 0 ≡ 0 }
+        ensures all_delays { (i : ℕ) → i < k → get_or self.new.gate i 0 ≡ get_or delays.now i 0 }
+        ensures room { let most = max_wires + (max_gates + max_gates) in (length self.new.kind ≡ most) × (length self.new.left ≡ most) × (length self.new.gate ≡ most) × (length self.new.right ≡ most) }
     {
-        let mut gate = [0; MAX_NODES];
-        gate[..k].copy_from_slice(&delays[..k]);
-        TreeNodes {
-            count: k,
-            kind: [0; MAX_NODES],
-            left: [0; MAX_NODES],
-            gate,
-            right: [0; MAX_NODES],
-        }
+        self.count = k;
+        self.kind[..k].fill(0);
+        self.gate[..k].copy_from_slice(&delays[..k]);
     }
 
     // One node more.

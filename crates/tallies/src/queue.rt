@@ -20,22 +20,24 @@ pub struct Queue {
 }
 
 impl Queue {
+    pub const EMPTY: Queue = Queue {
+        gates: [0; MAX_TURNS],
+        places: [0; MAX_GATES],
+        head: 0,
+        tail: 0,
+    };
+
     // The first n gates stand in the queue.
-    pub fn line_up(n: usize) -> Queue
+    pub fn line_up(&mut self, n: usize)
         requires { n ≤ max_gates }
-        ensures lined_up { LinedUp n result.gates result.places }
-        ensures ends { (result.head ≡ 0) × (result.tail ≡ n) }
+        ensures lined_up { LinedUp n self.new.gates self.new.places }
+        ensures ends { (self.new.head ≡ 0) × (self.new.tail ≡ n) }
     {
-        let mut queue = Queue {
-            gates: [0; MAX_TURNS],
-            places: [0; MAX_GATES],
-            head: 0,
-            tail: 0,
-        };
+        self.head = 0;
+        self.tail = 0;
         for g in 0..n {
-            queue.put(g);
+            self.put(g);
         }
-        queue
     }
 
     // Gate g stands at the tail.

@@ -31,31 +31,33 @@ fn count(ends: &[u32], tallies: &mut [u32], i: usize)
 }
 
 // The tallies of the gates by the first k slots, all of them live, of which `ends` holds one end.
-fn tally(ends: &[u32], k: usize) -> [u32; MAX_GATES]
+fn tally(ends: &[u32], tallies: &mut [u32; MAX_GATES], k: usize)
     requires k_le_max_wires { (k ≤ max_wires) × (k ≤ length ends.now) }
     requires ends_below { (i : ℕ) → i < k → get_or ends.now i 0 < max_gates }
-    ensures { (lives : List ℕ) → ((i : ℕ) → i < k → get_or lives i 0 ≡ 1) → TalliedBy lives ends.now max_gates k result }
+    ensures { (lives : List ℕ) → ((i : ℕ) → i < k → get_or lives i 0 ≡ 1) → TalliedBy lives ends.now max_gates k tallies.new }
 {
-    let mut tallies = [0; MAX_GATES];
+    tallies.fill(0);
     for i in 0..k {
-        count(ends, &mut tallies, i);
+        count(ends, tallies, i);
     }
-    tallies
 }
 
 impl Tallies {
+    pub const EMPTY: Tallies = Tallies {
+        ins: [0; MAX_GATES],
+        outs: [0; MAX_GATES],
+    };
+
     // The tallies of the gates by the first k slots, all of them live.
-    pub fn new(sources: &[u32], targets: &[u32], k: usize) -> Tallies
+    pub fn tally(&mut self, sources: &[u32], targets: &[u32], k: usize)
         requires k_le_max_wires { (k ≤ max_wires) × (k ≤ length sources.now) × (k ≤ length targets.now) }
         requires sources_below { (i : ℕ) → i < k → get_or sources.now i 0 < max_gates }
         requires targets_below { (i : ℕ) → i < k → get_or targets.now i 0 < max_gates }
-        ensures ins_right { (lives : List ℕ) → ((i : ℕ) → i < k → get_or lives i 0 ≡ 1) → TalliedBy lives targets.now max_gates k result.ins }
-        ensures outs_right { (lives : List ℕ) → ((i : ℕ) → i < k → get_or lives i 0 ≡ 1) → TalliedBy lives sources.now max_gates k result.outs }
+        ensures ins_right { (lives : List ℕ) → ((i : ℕ) → i < k → get_or lives i 0 ≡ 1) → TalliedBy lives targets.now max_gates k self.new.ins }
+        ensures outs_right { (lives : List ℕ) → ((i : ℕ) → i < k → get_or lives i 0 ≡ 1) → TalliedBy lives sources.now max_gates k self.new.outs }
     {
-        Tallies {
-            ins: tally(targets, k),
-            outs: tally(sources, k),
-        }
+        tally(targets, &mut self.ins, k);
+        tally(sources, &mut self.outs, k);
     }
 
     // Whether gate m can go, by the tallies.

@@ -1,5 +1,6 @@
 -- `tallies::tally::tally` meets its contract. The loop's invariant: the tallies are those of the slots below i, and small. Assumes nothing.
-use mathlib.Core.Path.{sym, ◌∙◌}
+use mathlib.Core.Path.{◌≡◌, sym, ◌∙◌}
+use lib.ListN.{length}
 use Prim.Native.Nat.{ℕ, zero}
 use native.Mathlib.Omega.{arith}
 use Rattle.std.proofs.lemmas.List.{length-replicate, get_or-replicate}
@@ -9,6 +10,8 @@ use Rattle.tallies.proofs.tally.tally.Goals as goal
 
 pub loop-i-init : goal.loop-i-init
 loop-i-init c =
+    let long : length c.args.tallies.now ≡ max_gates = omega arith in
+    rw (c.fill.ensures.after (λ y h. h), long)
     (length-replicate max_gates zero, λ g h. omega (arith, get_or-replicate {A = ℕ} max_gates g 0 0 h), λ lives all g h. get_or-replicate {A = ℕ} max_gates g 0 0 h ∙ sym (tally_none lives _ g))
 
 pub loop-i-preserved : goal.loop-i-preserved

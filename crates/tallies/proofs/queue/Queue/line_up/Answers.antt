@@ -10,5 +10,5 @@ loop-g-preserved c = (
   omega arith,
   rw (c.put.ensures.gates_after, length-set) c.loop-g.invariant.2,
   rw (c.put.ensures.places_after, length-set) c.loop-g.invariant.3,
-  rw (c.put.ensures.gates_after, c.put.ensures.places_after, c.loop-g.invariant.1) (lined_up_more c.loop-g.queue.gates c.loop-g.queue.places c.loop-g.g (omega arith) (omega arith) c.loop-g.invariant.4),
+  rw (c.put.ensures.gates_after, c.put.ensures.places_after, c.loop-g.invariant.1) (lined_up_more c.loop-g.self.gates c.loop-g.self.places c.loop-g.g (omega arith) (omega arith) c.loop-g.invariant.4),
 )

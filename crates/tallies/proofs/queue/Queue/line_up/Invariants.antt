@@ -6,4 +6,4 @@ use Rattle.tallies.specs.Queue.{LinedUp, max_turns}
 use Rattle.tallies.proofs.queue.Queue.line_up.Given as goal
 
 abbrev pub invariant-loop-g : goal.invariant-loop-g
-invariant-loop-g l = (l.queue.head ≡ 0) × (l.queue.tail ≡ l.g) × (length l.queue.gates ≡ max_turns) × (length l.queue.places ≡ max_gates) × LinedUp l.g l.queue.gates l.queue.places
+invariant-loop-g l = (l.self.head ≡ 0) × (l.self.tail ≡ l.g) × (length l.self.gates ≡ max_turns) × (length l.self.places ≡ max_gates) × LinedUp l.g l.self.gates l.self.places
