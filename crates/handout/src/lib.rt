@@ -10,8 +10,7 @@ ghost use Rattle.handout.specs.State.{CanGiveOut, GaveOut};
 use blockwords::BlockWords;
 use heads::below::renew_up;
 use heads::gate::gate_give_out;
-use heads::head_words::HeadWords;
-use heads::store::node_gain;
+use heads::store::Heads;
 use heads::way::descend;
 use planting::tree::{Kind, Tree};
 
@@ -23,12 +22,12 @@ pub fn series_give_out(
     block: &BlockWords,
     tree: &Tree,
     increases: &mut [u32],
-    heads: &mut HeadWords,
+    heads: &mut Heads,
 )
     requires { CanGiveOut block.now tree.now increases.old heads.old i w }
     ensures { GaveOut block.now tree.now increases.old heads.old increases.new heads.new i w (parent (tree_parents tree.now) i) }
 {
-    if node_gain(&*heads, i) == 0 {
+    if heads.node_gain(i) == 0 {
         return;
     }
     let j = descend(i, tree, &*heads);
@@ -49,7 +48,7 @@ pub fn parallel_give_out(
     block: &BlockWords,
     tree: &Tree,
     increases: &mut [u32],
-    heads: &mut HeadWords,
+    heads: &mut Heads,
 )
     requires bound { 1 < kind (tree_nodes tree.now) i }
     requires can_give_out { CanGiveOut block.now tree.now increases.old heads.old i w }
@@ -60,12 +59,12 @@ pub fn parallel_give_out(
     };
     let left = left as usize;
     let right = right as usize;
-    if node_gain(&*heads, left) == 0 {
+    if heads.node_gain(left) == 0 {
         series_give_out(right, w, block, tree, increases, heads);
         return;
     }
     series_give_out(left, w, block, tree, increases, heads);
-    if node_gain(&*heads, right) == 0 {
+    if heads.node_gain(right) == 0 {
         return;
     }
     series_give_out(right, w, block, tree, increases, heads);

@@ -8,8 +8,7 @@ ghost use Rattle.sizing.specs.Pairs.{Noted, Curvable, Spent};
 use crate::ticks::next_run;
 use blockwords::BlockWords;
 use handout::series_give_out;
-use heads::head_words::HeadWords;
-use heads::store::node_entry;
+use heads::store::Heads;
 use planting::tree::Tree;
 use ties::gain_in;
 
@@ -57,7 +56,7 @@ pub fn spend_ticks(
     block: &BlockWords,
     tree: &Tree,
     increases: &mut [u32],
-    heads: &mut HeadWords,
+    heads: &mut Heads,
     pair_widths: &mut [u32],
     pair_gains: &mut [u64],
 ) -> usize
@@ -70,7 +69,7 @@ pub fn spend_ticks(
     let mut count: usize = 0;
     let mut k: usize = 0;
     while k < steps {
-        let head = node_entry(&*heads, i);
+        let head = heads.node(i);
         let run = next_run(left, head);
         if run == 0 {
             return count;

@@ -8,7 +8,7 @@ ghost use Rattle.sizing.specs.Raise.{Lengths, Standing, Levelled, Raisable, Rais
 use crate::ticks::ticks_out;
 use blockwords::BlockWords;
 use heads::below::renew;
-use heads::head_words::HeadWords;
+use heads::store::Heads;
 use planting::tree::{Kind, Tree};
 
 // How much b is short of a.
@@ -25,7 +25,7 @@ fn raise_sides(
     tree: &Tree,
     lengths: &[u32],
     increases: &mut [u32],
-    heads: &mut HeadWords,
+    heads: &mut Heads,
 )
     requires standing { Standing (plan block.now tree.now) (state increases.old heads.old) i }
     requires steps_held { StepsHeld block.now }
@@ -50,7 +50,7 @@ pub fn raise_and_fill(
     tree: &Tree,
     lengths: &[u32],
     increases: &mut [u32],
-    heads: &mut HeadWords,
+    heads: &mut Heads,
 )
     requires raisable { Raisable (plan block.now tree.now) (state increases.old heads.old) }
     requires steps_held { StepsHeld block.now }
