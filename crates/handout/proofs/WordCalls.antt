@@ -1,4 +1,4 @@
--- The hand-out's calls, over words: what each asks, and what it leaves.
+-- The hand-out's calls, over a tree and the heads as stored: what each asks, and what it leaves.
 -- Assumes nothing.
 use mathlib.Core.Path.{◌≡◌, sym, ◌∙◌}
 use mathlib.Core.Logic.{◌≢◌}

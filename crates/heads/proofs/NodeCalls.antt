@@ -1,4 +1,4 @@
--- What a node's head asks of the words, and what stands below it.
+-- What a node's head asks of the stored heads, and what stands below it.
 -- Assumes nothing.
 use mathlib.Core.Path.{◌≡◌, sym}
 use Prim.Native.Nat.{ℕ, ◌<◌}

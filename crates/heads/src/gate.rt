@@ -28,10 +28,8 @@ pub fn gate_head(g: u32, k: u32, block: &BlockWords) -> Head
     requires { (g < gates_held block.now) × StepsHeld block.now }
     ensures { head_of result ≡ heads_of block.now g k }
 {
-    let count = step_count(block, g);
     let mut left = k;
-    let mut j: u32 = 0;
-    while j < count {
+    for j in 0..step_count(block, g) {
         let width = step_width(block, g, j);
         if left < width {
             return tick_head(
@@ -42,7 +40,6 @@ pub fn gate_head(g: u32, k: u32, block: &BlockWords) -> Head
             );
         }
         left -= width;
-        j += 1;
     }
     none()
 }

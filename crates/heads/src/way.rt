@@ -9,7 +9,7 @@ use crate::store::Heads;
 use planting::tree::{Kind, Tree};
 use ties::{Head, leads};
 
-// Of the numbers l, m and r, that of the head that leads.
+// Of the numbers l, m and r, that of the head that leads. The comparisons are those of `ties::best_of`, which answers the head and not whose it is.
 fn leading(left: Head, gate: Head, right: Head, l: usize, m: usize, r: usize) -> usize
     ensures { result ≡ item (turn (head_of left) (head_of gate) (head_of right)) l m r }
 {

@@ -1,4 +1,4 @@
-// The curve and the best increases of a block whose tree stands in words.
+// The curve and the best increases of a block whose tree is planted.
 ghost use Rattle.std.specs.Prelude.{◌≡◌, ℕ, ◌≤◌, ◌<◌, length, get_or};
 ghost use Rattle.lists.specs.Sum.{sum};
 ghost use Rattle.model.specs.Limits.{max_gates, max_steps, max_pairs, max_time};
