@@ -3,6 +3,7 @@ use Rattle.std.specs.Prelude.{◌≡◌, List, ℕ, ◌≤◌, ◌<◌, length, 
 use Rattle.optimum.specs.Increases.{give_list}
 use Rattle.planting.specs.declared.tree.Tree.{Tree}
 use Rattle.heads.specs.Plan.{Plan, Sound, StepsHeld, plan, node_count, part}
+use Rattle.heads.specs.declared.store.Heads.{Heads}
 use Rattle.heads.specs.Stored.{Stored, Room, Local, Keeps, Lent, head_at, gate_heads, node_heads}
 
 pub record State : Type 0 where
@@ -10,8 +11,8 @@ pub record State : Type 0 where
   pub gates : Stored
   pub nodes : Stored
 
-abbrev pub state : List ℕ → List ℕ → State
-state x words = record { increases = x; gates = gate_heads words; nodes = node_heads words }
+abbrev pub state : List ℕ → Heads → State
+state x kept = record { increases = x; gates = gate_heads kept; nodes = node_heads kept }
 
 -- every gate has an increase, and its stored head is the one that it has with that increase
 pub record Fresh (P : Plan) (S : State) : Type 0 where
@@ -38,12 +39,12 @@ pub record GivenOut (P : Plan) (S S' : State) (i w p : ℕ) : Type 0 where
   pub fresh : Fresh P S'
   pub keeps : Keeps P.nodes S.gates S.nodes S'.gates S'.nodes p
 
--- w ticks can be handed out at node i, over words
-pub record CanGiveOut (block : List ℕ) (tree : Tree) (x words : List ℕ) (i w : ℕ) : Type 0 where
-  pub ready : Ready (plan block tree) (state x words) i
+-- w ticks can be handed out at node i, over what is stored
+pub record CanGiveOut (block : List ℕ) (tree : Tree) (x : List ℕ) (kept : Heads) (i w : ℕ) : Type 0 where
+  pub ready : Ready (plan block tree) (state x kept) i
   pub steps : StepsHeld block
-  pub fitting : Fitting (state x words) i w
+  pub fitting : Fitting (state x kept) i w
 
 -- they have been
-pub record GaveOut (block : List ℕ) (tree : Tree) (x words x' words' : List ℕ) (i w p : ℕ) : Type 0 where
-  pub given : GivenOut (plan block tree) (state x words) (state x' words') i w p
+pub record GaveOut (block : List ℕ) (tree : Tree) (x : List ℕ) (kept : Heads) (x' : List ℕ) (kept' : Heads) (i w p : ℕ) : Type 0 where
+  pub given : GivenOut (plan block tree) (state x kept) (state x' kept') i w p

@@ -10,8 +10,7 @@ ghost use Rattle.handout.specs.State.{CanGiveOut, GaveOut};
 use blockwords::BlockWords;
 use heads::below::renew_up;
 use heads::gate::gate_give_out;
-use heads::head_words::HeadWords;
-use heads::store::node_gain;
+use heads::store::Heads;
 use heads::way::descend;
 use planting::tree::{Kind, Tree};
 
@@ -23,12 +22,12 @@ pub fn series_give_out(
     block: &BlockWords,
     tree: &Tree,
     increases: &mut [u32],
-    heads: &mut HeadWords,
+    heads: &mut Heads,
 )
     requires { CanGiveOut block.now tree.now increases.old heads.old i w }
     ensures { GaveOut block.now tree.now increases.old heads.old increases.new heads.new i w (parent (tree_parents tree.now) i) }
 {
-    if node_gain(heads, i) == 0 {
+    if heads.node_gain(i) == 0 {
         return;
     }
     let j = descend(i, tree, heads);
@@ -48,7 +47,7 @@ pub fn parallel_give_out(
     block: &BlockWords,
     tree: &Tree,
     increases: &mut [u32],
-    heads: &mut HeadWords,
+    heads: &mut Heads,
 )
     requires is_parallel { 1 < kind (tree_nodes tree.now) i }
     requires can_give_out { CanGiveOut block.now tree.now increases.old heads.old i w }

@@ -16,6 +16,7 @@ use Rattle.ties.specs.Code.{ranks}
 use Rattle.optimum.specs.Head.{Head, no_head, rank}
 use Rattle.optimum.specs.Gates.{room}
 use Rattle.heads.specs.Plan.{step_head, heads_in}
+use Rattle.heads.specs.declared.store.Heads.{Heads}
 use Rattle.heads.specs.Stored.{GateWritten}
 use Rattle.heads.specs.GateHeads.{GateAdded}
 
@@ -114,7 +115,7 @@ unfolding step_head
 tick_some r a width drop d = rw (ne_eqb (drop * a) 0 d)
 
 -- an increase and the head that goes with it, stored
-pub gate_added : (heads : ℕ → ℕ → Head) (x : List ℕ) {words : List ℕ} (g w : ℕ) {words' : List ℕ} {a : Head} → a ≡ heads g (get_or x g 0 + w)
-    → a.rank < ranks → GateWritten words words' g a → GateAdded heads x (set x g (get_or x g 0 + w)) words words' g w
+pub gate_added : (heads : ℕ → ℕ → Head) (x : List ℕ) {kept : Heads} (g w : ℕ) {kept' : Heads} {a : Head} → a ≡ heads g (get_or x g 0 + w)
+    → a.rank < ranks → GateWritten kept kept' g a → GateAdded heads x (set x g (get_or x g 0 + w)) kept kept' g w
 gate_added heads x g w e l f =
     record { added = record { increases = refl; written = f.gates ∙ rw e; low = rw e at l }; nodes = f.nodes }

@@ -1,13 +1,14 @@
--- Heads stored in words, an entry a gate or a node; and what makes them right: a node's stored head is what the stored heads just below it make.
-use Rattle.std.specs.Prelude.{◌≡◌, ◌≢◌, List, cond, ℕ, zero, suc, ◌+◌, ◌*◌, ◌^◌, ◌≤◌, ◌<◌, ltb, length, get_or, set}
+-- Heads stored, one for each gate and one for each node; and what makes them right: a node's stored head is what the stored heads just below it make.
+use Rattle.std.specs.Prelude.{◌≡◌, ◌≢◌, List, map, ℕ, zero, suc, ◌+◌, ◌^◌, ◌≤◌, ◌<◌, length, get_or, set}
 use Rattle.model.specs.Limits.{max_gates}
 use Rattle.planting.specs.Copy.{max_nodes}
 use Rattle.parts.specs.Nodes.{Nodes}
 use Rattle.optimum.specs.Head.{Head, no_head, best_of, beside, Item, turn, item}
-use Rattle.words.specs.View.{view}
 use Rattle.planting.specs.declared.tree.Tree.{Tree}
 use Rattle.planting.specs.TreeWords.{tree_nodes, tree_parents}
+use Rattle.ties.specs.declared.Head.{Head as Coded}
 use Rattle.ties.specs.Code.{of_key, key_of}
+use Rattle.heads.specs.declared.store.Heads.{Heads}
 use Rattle.heads.specs.Plan.{node_count, kind, left, gate, right, parent, most_gain, Shaped}
 
 pub record Stored : Type 0 where
@@ -17,31 +18,20 @@ pub record Stored : Type 0 where
 abbrev pub stored : List ℕ → List ℕ → Stored
 stored widths keys = record { widths = widths; keys = keys }
 
--- the words of heads: two a head, its key and its width; an entry for each gate, and behind them one for each node
-abbrev pub head_entries : ℕ
-head_entries = max_gates + max_nodes
+-- heads as stored
+abbrev pub stored_in : List Coded → Stored
+stored_in heads = stored (map (λ a. a.width) heads) (map (λ a. a.key) heads)
 
--- the head at entry e
-abbrev pub entry_at : List ℕ → ℕ → Head
-entry_at words e = of_key (get_or words (e * 2 + 1) 0) (get_or words (e * 2 + 0) 0)
+unfoldable pub gate_heads : Heads → Stored
+gate_heads kept = stored_in kept.gates
 
--- the head a at entry e
-abbrev pub write : List ℕ → ℕ → Head → List ℕ
-write words e a = set (set words (e * 2 + 0) (key_of a)) (e * 2 + 1) a.width
+unfoldable pub node_heads : Heads → Stored
+node_heads kept = stored_in kept.nodes
 
--- `count` entries from entry `first` on
-abbrev pub heads_from : ℕ → ℕ → List ℕ → Stored
-heads_from first count words = stored (view (first * 2 + 1) 2 count words) (view (first * 2 + 0) 2 count words)
-
--- so many, where the words are all there; otherwise none
-unfoldable pub if_long : List ℕ → ℕ → ℕ
-if_long words count = cond (ltb (length words) (head_entries * 2)) 0 count
-
-unfoldable pub gate_heads : List ℕ → Stored
-gate_heads words = heads_from 0 (if_long words max_gates) words
-
-unfoldable pub node_heads : List ℕ → Stored
-node_heads words = heads_from max_gates (if_long words max_nodes) words
+-- there is a head for each gate and for each node
+pub record AllThere (kept : Heads) : Type 0 where
+  pub gates : max_gates ≤ length kept.gates
+  pub nodes : max_nodes ≤ length kept.nodes
 
 -- the head at place k
 abbrev pub head_at : Stored → ℕ → Head
@@ -90,22 +80,22 @@ pub record Lent (N : Nodes) (G H : Stored) : Type 0 where
   pub gate_room : (k : ℕ) → k < node_count N → kind N k ≡ 1 → Room G (gate N k)
   pub gate_gain : (k : ℕ) → k < node_count N → kind N k ≡ 1 → (head_at G (gate N k)).gain ≤ most_gain
 
--- gate g, or node k, has a head in the words
-pub record GateRoom (words : List ℕ) (g : ℕ) : Type 0 where
-  pub room : Room (gate_heads words) g
+-- gate g, or node k, has a head
+pub record GateRoom (kept : Heads) (g : ℕ) : Type 0 where
+  pub room : Room (gate_heads kept) g
 
-pub record NodeRoom (words : List ℕ) (k : ℕ) : Type 0 where
-  pub room : Room (node_heads words) k
+pub record NodeRoom (kept : Heads) (k : ℕ) : Type 0 where
+  pub room : Room (node_heads kept) k
 
 -- A node's head has been written, and no other.
-pub record NodeWritten (words words' : List ℕ) (k : ℕ) (a : Head) : Type 0 where
-  pub gates : gate_heads words' ≡ gate_heads words
-  pub nodes : node_heads words' ≡ put (node_heads words) k a
+pub record NodeWritten (kept kept' : Heads) (k : ℕ) (a : Head) : Type 0 where
+  pub gates : gate_heads kept' ≡ gate_heads kept
+  pub nodes : node_heads kept' ≡ put (node_heads kept) k a
 
 -- A gate's head has been written, and no other.
-pub record GateWritten (words words' : List ℕ) (g : ℕ) (a : Head) : Type 0 where
-  pub gates : gate_heads words' ≡ put (gate_heads words) g a
-  pub nodes : node_heads words' ≡ node_heads words
+pub record GateWritten (kept kept' : Heads) (g : ℕ) (a : Head) : Type 0 where
+  pub gates : gate_heads kept' ≡ put (gate_heads kept) g a
+  pub nodes : node_heads kept' ≡ node_heads kept
 
 -- the node that gets the ticks of node k: node k itself where its own gate gets them, or where it is no series node
 abbrev pub next_by : ℕ → Item → ℕ → ℕ → ℕ → ℕ
@@ -150,20 +140,20 @@ pub record Renewed (N : Nodes) (parents : List ℕ) (G H H' : Stored) (j i : ℕ
   pub lent : Lent N G H'
   pub still : (k : ℕ) → k < node_count N → k ≢ parent parents i → (k ≢ j → Local N G H k) → Local N G H' k
 
--- The same over a tree and the words of heads.
-pub record CanMake (tree : Tree) (words : List ℕ) (k : ℕ) : Type 0 where
-  pub made : Made (tree_nodes tree) (gate_heads words) (node_heads words) k
+-- The same over a tree and the heads as stored.
+pub record CanMake (tree : Tree) (kept : Heads) (k : ℕ) : Type 0 where
+  pub made : Made (tree_nodes tree) (gate_heads kept) (node_heads kept) k
 
-pub record CanWalk (tree : Tree) (words : List ℕ) (i : ℕ) : Type 0 where
-  pub walkable : Walkable (tree_nodes tree) (gate_heads words) (node_heads words) i
+pub record CanWalk (tree : Tree) (kept : Heads) (i : ℕ) : Type 0 where
+  pub walkable : Walkable (tree_nodes tree) (gate_heads kept) (node_heads kept) i
 
-pub record WalkEnds (tree : Tree) (words : List ℕ) (i j : ℕ) : Type 0 where
-  pub ended : Ended (tree_nodes tree) (gate_heads words) (node_heads words) i j
+pub record WalkEnds (tree : Tree) (kept : Heads) (i j : ℕ) : Type 0 where
+  pub ended : Ended (tree_nodes tree) (gate_heads kept) (node_heads kept) i j
 
-pub record CanRenew (tree : Tree) (words : List ℕ) (j i : ℕ) : Type 0 where
-  pub renewable : Renewable (tree_nodes tree) (tree_parents tree) (gate_heads words) (node_heads words) j i
+pub record CanRenew (tree : Tree) (kept : Heads) (j i : ℕ) : Type 0 where
+  pub renewable : Renewable (tree_nodes tree) (tree_parents tree) (gate_heads kept) (node_heads kept) j i
 
 -- no head of a gate has been written
-pub record NodesRenewed (tree : Tree) (words words' : List ℕ) (j i : ℕ) : Type 0 where
-  pub gates : gate_heads words' ≡ gate_heads words
-  pub renewed : Renewed (tree_nodes tree) (tree_parents tree) (gate_heads words) (node_heads words) (node_heads words') j i
+pub record NodesRenewed (tree : Tree) (kept kept' : Heads) (j i : ℕ) : Type 0 where
+  pub gates : gate_heads kept' ≡ gate_heads kept
+  pub renewed : Renewed (tree_nodes tree) (tree_parents tree) (gate_heads kept) (node_heads kept) (node_heads kept') j i

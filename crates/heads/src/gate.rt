@@ -7,8 +7,7 @@ ghost use Rattle.heads.specs.Plan.{most_input, heads_of, step_head, StepsHeld};
 ghost use Rattle.heads.specs.Stored.{GateRoom};
 ghost use Rattle.heads.specs.GateHeads.{GateAdded, GatesUnslowed};
 
-use crate::head_words::HeadWords;
-use crate::store::write_gate;
+use crate::store::Heads;
 use blockwords::{BlockWords, gate_count, input_of, step_count, step_drop, step_width};
 use ties::{Head, keyed, none, rank};
 
@@ -29,10 +28,8 @@ pub fn gate_head(g: u32, k: u32, block: &BlockWords) -> Head
     requires { (g < gates_held block.now) × StepsHeld block.now }
     ensures { head_of result ≡ heads_of block.now g k }
 {
-    let count = step_count(block, g);
     let mut left = k;
-    let mut j: u32 = 0;
-    while j < count {
+    for j in 0..step_count(block, g) {
         let width = step_width(block, g, j);
         if left < width {
             return tick_head(
@@ -43,30 +40,23 @@ pub fn gate_head(g: u32, k: u32, block: &BlockWords) -> Head
             );
         }
         left -= width;
-        j += 1;
     }
     none()
 }
 
 // Gives w ticks to gate g, and renews its head.
-pub fn gate_give_out(
-    g: u32,
-    w: u32,
-    block: &BlockWords,
-    increases: &mut [u32],
-    heads: &mut HeadWords,
-)
+pub fn gate_give_out(g: u32, w: u32, block: &BlockWords, increases: &mut [u32], heads: &mut Heads)
     requires { (g < gates_held block.now) × StepsHeld block.now × (g < length increases.old) × (get_or increases.old g 0 + w < 2 ^ 32) × GateRoom heads.old g }
     ensures { GateAdded (heads_of block.now) increases.old increases.new heads.old heads.new g w }
 {
     let at = g as usize;
     let more = increases[at] + w;
     increases[at] = more;
-    write_gate(heads, at, gate_head(g, more, block));
+    heads.put_gate(at, gate_head(g, more, block));
 }
 
 // Puts the increases of the gates to 0, and stores the heads that the gates then have.
-pub fn unslowed_heads(block: &BlockWords, increases: &mut [u32], heads: &mut HeadWords)
+pub fn unslowed_heads(block: &BlockWords, increases: &mut [u32], heads: &mut Heads)
     requires steps_held { StepsHeld block.now }
     requires block_in_bounds { gates_held block.now ≤ length increases.old }
     requires heads_there { (g : ℕ) → g < gates_held block.now → GateRoom heads.old g }
@@ -75,6 +65,6 @@ pub fn unslowed_heads(block: &BlockWords, increases: &mut [u32], heads: &mut Hea
     for g in 0..gate_count(block) {
         let at = g as usize;
         increases[at] = 0;
-        write_gate(heads, at, gate_head(g, 0, block));
+        heads.put_gate(at, gate_head(g, 0, block));
     }
 }

@@ -1,8 +1,7 @@
-// Heads of gates and nodes in words: the head of a gate by its steps, the head of a node by those below it, and the way down to the item that gets a tick. Public for the crates above only.
+// Heads of gates and nodes: the head of a gate by its steps, the head of a node by those below it, and the way down to the item that gets a tick. Public for the crates above only.
 #![tactic(auto)]
 
 pub mod below;
 pub mod gate;
-pub mod head_words;
 pub mod store;
 pub mod way;

@@ -1,68 +1,67 @@
-// Heads stored in words, an entry a gate or a node.
-ghost use Rattle.std.specs.Prelude.{◌≡◌, ◌<◌};
+// The heads of gates and of nodes, stored.
+ghost use Rattle.std.specs.Prelude.{◌≡◌};
 ghost use Rattle.ties.specs.Code.{head_of};
-ghost use Rattle.heads.specs.Stored.{GateRoom, NodeRoom, NodeWritten, GateWritten, head_entries, entry_at, write, gate_heads, node_heads, head_at};
+ghost use Rattle.heads.specs.Stored.{AllThere, GateRoom, NodeRoom, NodeWritten, GateWritten, gate_heads, node_heads, head_at};
 
-use crate::head_words::{FIRST_NODE, HEAD_WORDS, HeadWords, KEY, WIDTH};
-use ties::{Head, gain_in};
+use model::limits::MAX_GATES;
+use planting::MAX_NODES;
+use ties::{Head, gain_in, none};
 
-// The head at entry e.
-fn read_entry(heads: &HeadWords, e: usize) -> Head
-    requires { e < head_entries }
-    ensures { head_of result ≡ entry_at heads.now e }
-{
-    Head {
-        key: heads[e * HEAD_WORDS + KEY],
-        width: heads[e * HEAD_WORDS + WIDTH],
+// A head for each gate and for each node.
+#[derive(Drop)]
+pub struct Heads {
+    pub gates: [Head; MAX_GATES],
+    pub nodes: [Head; MAX_NODES],
+}
+
+impl Heads {
+    // Heads that say that there are none.
+    pub fn new() -> Heads
+        ensures { AllThere result }
+    {
+        Heads {
+            gates: [none(); MAX_GATES],
+            nodes: [none(); MAX_NODES],
+        }
     }
-}
 
-// Stores a head at entry e.
-fn write_entry(heads: &mut HeadWords, e: usize, a: Head)
-    requires { e < head_entries }
-    ensures { heads.new ≡ write heads.old e (head_of a) }
-{
-    heads[e * HEAD_WORDS + KEY] = a.key;
-    heads[e * HEAD_WORDS + WIDTH] = a.width;
-}
+    // The head of gate g.
+    pub fn gate(&self, g: usize) -> Head
+        requires { GateRoom self.now g }
+        ensures { head_of result ≡ head_at (gate_heads self.now) g }
+    {
+        self.gates[g]
+    }
 
-// The head of gate g.
-pub fn gate_entry(heads: &HeadWords, g: usize) -> Head
-    requires { GateRoom heads.now g }
-    ensures { head_of result ≡ head_at (gate_heads heads.now) g }
-{
-    read_entry(heads, g)
-}
+    // The head of node i.
+    pub fn node(&self, i: usize) -> Head
+        requires { NodeRoom self.now i }
+        ensures { head_of result ≡ head_at (node_heads self.now) i }
+    {
+        self.nodes[i]
+    }
 
-// The head of node i.
-pub fn node_entry(heads: &HeadWords, i: usize) -> Head
-    requires { NodeRoom heads.now i }
-    ensures { head_of result ≡ head_at (node_heads heads.now) i }
-{
-    read_entry(heads, FIRST_NODE + i)
-}
+    // Stores the head of gate g.
+    pub fn put_gate(&mut self, g: usize, a: Head)
+        requires { GateRoom self.old g }
+        ensures { GateWritten self.old self.new g (head_of a) }
+    {
+        self.gates[g] = a;
+    }
 
-// Stores the head of gate g.
-pub fn write_gate(heads: &mut HeadWords, g: usize, a: Head)
-    requires { GateRoom heads.old g }
-    ensures { GateWritten heads.old heads.new g (head_of a) }
-{
-    write_entry(heads, g, a);
-}
+    // Stores the head of node i.
+    pub fn put_node(&mut self, i: usize, a: Head)
+        requires { NodeRoom self.old i }
+        ensures { NodeWritten self.old self.new i (head_of a) }
+    {
+        self.nodes[i] = a;
+    }
 
-// Stores the head of node i.
-pub fn write_node(heads: &mut HeadWords, i: usize, a: Head)
-    requires { NodeRoom heads.old i }
-    ensures { NodeWritten heads.old heads.new i (head_of a) }
-{
-    write_entry(heads, FIRST_NODE + i, a);
-}
-
-// The gain of node i's head.
-pub fn node_gain(heads: &HeadWords, i: usize) -> u64
-    requires { NodeRoom heads.now i }
-    ensures { result ≡ (head_at (node_heads heads.now) i).gain }
-{
-    let head = node_entry(heads, i);
-    gain_in(head.key)
+    // The gain of node i's head.
+    pub fn node_gain(&self, i: usize) -> u64
+        requires { NodeRoom self.now i }
+        ensures { result ≡ (head_at (node_heads self.now) i).gain }
+    {
+        gain_in(self.node(i).key)
+    }
 }

@@ -5,12 +5,11 @@ ghost use Rattle.ties.specs.Code.{head_of};
 ghost use Rattle.planting.specs.TreeWords.{tree_nodes};
 ghost use Rattle.heads.specs.Stored.{CanMake, CanWalk, WalkEnds, gate_heads, node_heads, next_down};
 
-use crate::head_words::HeadWords;
-use crate::store::{gate_entry, node_entry};
+use crate::store::Heads;
 use planting::tree::{Kind, Tree};
 use ties::{Head, leads};
 
-// Of the numbers l, m and r, that of the head that leads.
+// Of the numbers l, m and r, that of the head that leads. The comparisons are those of `ties::best_of`, which answers the head and not whose it is.
 fn leading(left: Head, gate: Head, right: Head, l: usize, m: usize, r: usize) -> usize
     ensures { result ≡ item (turn (head_of left) (head_of gate) (head_of right)) l m r }
 {
@@ -27,7 +26,7 @@ fn leading(left: Head, gate: Head, right: Head, l: usize, m: usize, r: usize) ->
 }
 
 // The child of series node i that gets its ticks; node i itself where its gate gets them, or where it is no series node.
-fn next_down(i: usize, tree: &Tree, heads: &HeadWords) -> usize
+fn next_down(i: usize, tree: &Tree, heads: &Heads) -> usize
     requires { CanMake tree.now heads.now i }
     ensures { result ≡ next_down (tree_nodes tree.now) (gate_heads heads.now) (node_heads heads.now) i }
 {
@@ -37,9 +36,9 @@ fn next_down(i: usize, tree: &Tree, heads: &HeadWords) -> usize
     let l = left as usize;
     let r = right as usize;
     leading(
-        node_entry(heads, l),
-        gate_entry(heads, gate as usize),
-        node_entry(heads, r),
+        heads.node(l),
+        heads.gate(gate as usize),
+        heads.node(r),
         l,
         i,
         r,
@@ -47,7 +46,7 @@ fn next_down(i: usize, tree: &Tree, heads: &HeadWords) -> usize
 }
 
 // The node at the end of the way down from node i.
-pub fn descend(i: usize, tree: &Tree, heads: &HeadWords) -> usize
+pub fn descend(i: usize, tree: &Tree, heads: &Heads) -> usize
     requires { CanWalk tree.now heads.now i }
     ensures { WalkEnds tree.now heads.now i result }
 {

@@ -5,7 +5,6 @@ pub mod Tops
 pub mod Wires
 pub mod Shaping
 pub mod Agreeing
-pub mod Columns
 pub mod Writing
 pub mod RuledOut
 pub mod HeldNodes

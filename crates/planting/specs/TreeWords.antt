@@ -1,8 +1,8 @@
 -- A tree as it is stored: how many nodes it has, and the nodes, each with what it is and its parent. What it holds as arrays, an entry a node: its kind, its left child, its gate (of a wire: its delay), its right child, its parent.
-use Rattle.std.specs.Prelude.{◌≡◌, List, ℕ, ◌-◌, ◌≤◌, ◌<◌, length, get_or, set}
+use Rattle.std.specs.Prelude.{◌≡◌, List, map, ℕ, ◌-◌, ◌≤◌, ◌<◌, get_or, set}
 use Rattle.lists.specs.Over.{build}
 use Rattle.parts.specs.Nodes.{Nodes}
-use Rattle.planting.specs.Copy.{Plot, nodes_in, put, max_nodes}
+use Rattle.planting.specs.Copy.{Plot, nodes_in, plot, put, max_nodes}
 use Rattle.planting.specs.declared.tree.Kind.{Kind}
 use Rattle.planting.specs.declared.tree.Kind.TheVariants.{Wire, Series, Parallel}
 use Rattle.planting.specs.declared.tree.Node.{Node}
@@ -33,34 +33,29 @@ right_of (Parallel l r) = r
 abbrev pub no_node : Node
 no_node = record { kind = Wire 0; parent = 0 }
 
--- one number of each of the first nodes
-unfoldable pub column : (Node → ℕ) → ℕ → List Node → List ℕ
-column f count nodes = build count (λ (k : ℕ). f (get_or nodes k no_node))
-
--- the arrays that so many nodes hold
-abbrev pub nodes_from : ℕ → List Node → Nodes
-nodes_from count nodes =
-    nodes_in (column (λ n. number_of n.kind) count nodes) (column (λ n. left_of n.kind) count nodes)
-    (column (λ n. gate_of n.kind) count nodes) (column (λ n. right_of n.kind) count nodes)
-
-abbrev pub parents_from : ℕ → List Node → List ℕ
-parents_from count nodes = column (λ n. n.parent) count nodes
-
 -- the arrays that all nodes hold, however many the tree has
 unfoldable pub plot_of : Tree → Plot
-plot_of tree = record { nodes = nodes_from (length tree.nodes) tree.nodes; parents = parents_from (length tree.nodes) tree.nodes }
+plot_of tree =
+    plot (map (λ n. number_of n.kind) tree.nodes) (map (λ n. left_of n.kind) tree.nodes) (map (λ n. gate_of n.kind) tree.nodes)
+    (map (λ n. right_of n.kind) tree.nodes) (map (λ n. n.parent) tree.nodes)
 
 -- how many nodes the tree has
 abbrev pub nodes_held : Tree → ℕ
 nodes_held tree = tree.count
 
+-- one number of each node that the tree has
+unfoldable pub column : (Node → ℕ) → Tree → List ℕ
+column f tree = build (nodes_held tree) (λ (k : ℕ). f (get_or tree.nodes k no_node))
+
 -- the nodes that the tree has
 unfoldable pub tree_nodes : Tree → Nodes
-tree_nodes tree = nodes_from (nodes_held tree) tree.nodes
+tree_nodes tree =
+    nodes_in (column (λ n. number_of n.kind) tree) (column (λ n. left_of n.kind) tree) (column (λ n. gate_of n.kind) tree)
+    (column (λ n. right_of n.kind) tree)
 
 -- their parents
 unfoldable pub tree_parents : Tree → List ℕ
-tree_parents tree = parents_from (nodes_held tree) tree.nodes
+tree_parents tree = column (λ n. n.parent) tree
 
 -- node k is one of the tree, which has no more nodes than a block's tree can have
 pub record NodeIn (tree : Tree) (k : ℕ) : Type 0 where

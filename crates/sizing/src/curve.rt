@@ -7,8 +7,7 @@ ghost use Rattle.sizing.specs.Pairs.{Noted, Curvable, Spent};
 use crate::ticks::next_run;
 use blockwords::BlockWords;
 use handout::series_give_out;
-use heads::head_words::HeadWords;
-use heads::store::node_entry;
+use heads::store::Heads;
 use planting::tree::Tree;
 use ties::gain_in;
 
@@ -42,7 +41,7 @@ pub fn spend_ticks(
     block: &BlockWords,
     tree: &Tree,
     increases: &mut [u32],
-    heads: &mut HeadWords,
+    heads: &mut Heads,
     pair_widths: &mut [u32],
     pair_gains: &mut [u64],
 ) -> usize
@@ -54,7 +53,7 @@ pub fn spend_ticks(
     let mut left = ticks;
     let mut count = 0;
     for _k in 0..steps {
-        let head = node_entry(heads, i);
+        let head = heads.node(i);
         let Some(run) = next_run(left, head) else {
             return count;
         };

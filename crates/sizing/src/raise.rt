@@ -8,7 +8,7 @@ ghost use Rattle.sizing.specs.Raise.{Lengths, Standing, Levelled, Raisable, Rais
 use crate::ticks::ticks_out;
 use blockwords::BlockWords;
 use heads::below::renew;
-use heads::head_words::HeadWords;
+use heads::store::Heads;
 use planting::tree::{Kind, Tree};
 
 // Raises the shorter side of node i, if it is a parallel node. `lengths` holds how long each part lasts with no increase.
@@ -18,7 +18,7 @@ fn raise_sides(
     tree: &Tree,
     lengths: &[u32],
     increases: &mut [u32],
-    heads: &mut HeadWords,
+    heads: &mut Heads,
 )
     requires standing { Standing (plan block.now tree.now) (state increases.old heads.old) i }
     requires steps_held { StepsHeld block.now }
@@ -45,7 +45,7 @@ pub fn raise_and_fill(
     tree: &Tree,
     lengths: &[u32],
     increases: &mut [u32],
-    heads: &mut HeadWords,
+    heads: &mut Heads,
 )
     requires raisable { Raisable (plan block.now tree.now) (state increases.old heads.old) }
     requires steps_held { StepsHeld block.now }

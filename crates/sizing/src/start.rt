@@ -8,7 +8,7 @@ use crate::length::part_lengths;
 use crate::raise::raise_and_fill;
 use blockwords::BlockWords;
 use heads::gate::unslowed_heads;
-use heads::head_words::HeadWords;
+use heads::store::Heads;
 use planting::tree::Tree;
 
 // The increases of the raised start, and all heads with them.
@@ -19,7 +19,7 @@ pub fn start(
     delays: &[u32],
     lengths: &mut [u32],
     increases: &mut [u32],
-    heads: &mut HeadWords,
+    heads: &mut Heads,
 )
     requires sizable { Sizable (plan block.now tree.now) (state increases.old heads.old) }
     requires steps_held { StepsHeld block.now }

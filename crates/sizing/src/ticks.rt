@@ -8,8 +8,7 @@ ghost use Rattle.sizing.specs.Ticks.{run_of, TickedOut};
 
 use blockwords::BlockWords;
 use handout::series_give_out;
-use heads::head_words::HeadWords;
-use heads::store::node_entry;
+use heads::store::Heads;
 use planting::tree::Tree;
 use ties::{Head, gain_in};
 
@@ -32,7 +31,7 @@ pub fn ticks_out(
     block: &BlockWords,
     tree: &Tree,
     increases: &mut [u32],
-    heads: &mut HeadWords,
+    heads: &mut Heads,
 )
     requires ready { Ready (plan block.now tree.now) (state increases.old heads.old) i }
     requires steps_held { StepsHeld block.now }
@@ -40,7 +39,7 @@ pub fn ticks_out(
     ensures { TickedOut (plan block.now tree.now) (state increases.old heads.old) (state increases.new heads.new) i ticks }
 {
     let mut left = ticks;
-    while let Some(run) = next_run(left, node_entry(heads, i)) {
+    while let Some(run) = next_run(left, heads.node(i)) {
         series_give_out(i, run, block, tree, increases, heads);
         left -= run;
     }

@@ -2,7 +2,7 @@
 -- Assumes nothing.
 use mathlib.Core.Path.{◌≡◌, refl, sym, subst}
 use mathlib.Core.List.{List}
-use Prim.Native.Nat.{ℕ, ◌-◌, ◌*◌, ◌≤◌}
+use Prim.Native.Nat.{ℕ, ◌-◌}
 use lib.ListN.{length, get_or}
 use Rattle.lists.specs.Sum.{sum}
 use Rattle.model.specs.Block.{Block}
@@ -11,7 +11,8 @@ use Rattle.planting.specs.declared.tree.Tree.{Tree}
 use Rattle.planting.specs.TreeWords.{nodes_held, tree_nodes, tree_parents}
 use Rattle.blockwords.specs.Gathered.{Gathered}
 use Rattle.heads.specs.Plan.{Plan, plan}
-use Rattle.heads.specs.Stored.{head_entries}
+use Rattle.heads.specs.declared.store.Heads.{Heads}
+use Rattle.heads.specs.Stored.{AllThere}
 use Rattle.planting.proofs.HeldNodes.{kinds_held}
 use Rattle.heads.proofs.Gathering.{heads_gathered}
 use Rattle.handout.specs.State.{State, state}
@@ -31,8 +32,8 @@ module _ {B : Block} {n : ℕ} (tree : Tree) {counts step_widths drops inputs de
   last_node : {c : ℕ} → c ≡ nodes_held tree → root (tree_plan n arrays) ≡ c - 1
   last_node e = rw (e, kinds_held tree) refl
 
-  pub can_start : {list : List ℕ} (words : List ℕ) → length list ≡ n → head_entries * 2 ≤ length words → Sizable (plan block tree) (state list words)
-  can_start {list} words e l = subst (λ (P : Plan). Sizable P (state list words)) (sym plan_is) (sizable h words e l)
+  pub can_start : {list : List ℕ} (kept : Heads) → length list ≡ n → AllThere kept → Sizable (plan block tree) (state list kept)
+  can_start {list} kept e all = subst (λ (P : Plan). Sizable P (state list kept)) (sym plan_is) (sizable h kept e all)
 
   module _ {S : State} (raised : Raised (plan block tree) (delays_in delays) S) where
     by_arrays : Raised (tree_plan n arrays) (delays_in delays) S

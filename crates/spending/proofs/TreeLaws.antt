@@ -31,8 +31,9 @@ use Rattle.optimum.specs.BlockTree.{block_tree, increases, step_count, pairs_of,
 use Rattle.optimum.proofs.BlockTree.{block_is_tree}
 use Rattle.planting.specs.Copy.{max_nodes}
 use Rattle.heads.specs.Plan.{Plan, part, heads_in, Sound, StepsLent}
-use Rattle.heads.specs.Stored.{head_entries}
-use Rattle.heads.proofs.Heads.{gate_place, node_place}
+use Rattle.heads.specs.declared.store.Heads.{Heads}
+use Rattle.heads.specs.Stored.{AllThere}
+use Rattle.heads.proofs.Heads.{no_coded, gate_place, node_place}
 use Rattle.handout.specs.State.{State, state}
 use Rattle.sizing.specs.Raise.{root, delays_in, Measurable, Raised, Sizable}
 use Rattle.sizing.specs.Pairs.{pair, pairs_in, Curvable, NodeCurve}
@@ -101,15 +102,15 @@ module _ {B : Block} {n : ℕ} {A : TreeArrays} (h : TreeHeld B n A) where
         near = reach_small steps_lent narrow;
       }
 
-  pub sizable : {x : List ℕ} (words : List ℕ) → length x ≡ n → head_entries * 2 ≤ length words → Sizable plan_of (state x words)
-  sizable words one_each long =
+  pub sizable : {x : List ℕ} (kept : Heads) → length x ≡ n → AllThere kept → Sizable plan_of (state x kept)
+  sizable kept one_each all =
       record {
         sound = sound;
         above = h.above;
         some_node = h.some_node;
         whole = λ g l. rw h.top (omega (arith, is_tree.all g (omega (arith, count_is))));
-        room = λ k l. node_place words long k (omega (arith, h.shaped.few_nodes));
-        gate_room = λ g l. gate_place words long g (omega (arith, gates_few));
+        room = λ k l. node_place kept all k (omega (arith, h.shaped.few_nodes));
+        gate_room = λ g l. gate_place kept all g (omega (arith, gates_few));
         one_each = one_each;
       }
 
@@ -161,8 +162,13 @@ module _ {B : Block} {n : ℕ} {A : TreeArrays} (h : TreeHeld B n A) where
       → s ≡ sum n (λ (g : ℕ). get_or A.counts g 0) → Curvable plan_of S (root plan_of) s
   curvable raised e = root_curvable at_rest raised (widths_small steps_lent narrow) (omega (arith, steps_few))
     where
-      at_rest : Sizable plan_of (state (replicate n 0) (replicate (head_entries * 2) 0))
-      at_rest = sizable (replicate (head_entries * 2) 0) (length-replicate {A = ℕ} n 0) (omega (arith, length-replicate {A = ℕ} (head_entries * 2) 0))
+      no_heads : Heads
+      no_heads = record { gates = replicate max_gates no_coded; nodes = replicate max_nodes no_coded }
+
+      at_rest : Sizable plan_of (state (replicate n 0) no_heads)
+      at_rest =
+          sizable no_heads (length-replicate {A = ℕ} n 0)
+          (record { gates = omega (arith, length-replicate max_gates no_coded); nodes = omega (arith, length-replicate max_nodes no_coded) })
 
   -- with ticks for all steps, the pairs noted are those of the block's curve
   module _ {after ws gs ws' gs' : List ℕ} {ticks : ℕ} {r : TreeCurve} (found : RunsFound B h.fits n A ticks after ws gs ws' gs' r) (enough : max_pairs * max_width ≤ ticks) where

@@ -1,4 +1,4 @@
--- A series-parallel block whose tree stands in words: what sizing it asks, and what is found.
+-- A series-parallel block with its tree: what sizing it asks, and what is found.
 use Rattle.std.specs.Prelude.{◌≡◌, List, map, ℕ, ◌-◌, ◌*◌, ◌^◌, ◌≤◌, ◌<◌, length, get_or}
 use Rattle.lists.specs.Sum.{sum}
 use Rattle.lists.specs.Over.{over}

@@ -1,4 +1,4 @@
-// The curve and the best increases of a block whose tree stands in words.
+// The curve and the best increases of a block whose tree is planted.
 ghost use Rattle.std.specs.Prelude.{◌≡◌, ◌≤◌, length, sum};
 ghost use Rattle.model.specs.Limits.{max_gates, max_pairs, max_time};
 ghost use Rattle.model.specs.Block.{Block};
@@ -7,7 +7,7 @@ ghost use Rattle.spending.specs.TreeHeld.{tree_arrays, TreeHeld, RunsFound, Curv
 use blockwords::BLOCK_WORDS;
 use blockwords::gathering::gather;
 use gains::saving::list_saving;
-use heads::head_words::ALL_HEADS;
+use heads::store::Heads;
 use model::limits::{GateNumbers, MAX_PAIRS, StepNumbers};
 use planting::MAX_NODES;
 use planting::tree::Tree;
@@ -56,7 +56,7 @@ fn tree_runs(
     let mut block = [0u32; BLOCK_WORDS];
     gather(n, counts, step_widths, drops, inputs, &mut block);
     let mut lengths = [0u32; MAX_NODES];
-    let mut heads = [0u64; ALL_HEADS];
+    let mut heads = Heads::new();
     start(&block, tree, delays, &mut lengths, increases, &mut heads);
     let saving = list_saving(n as usize, counts, step_widths, drops, inputs, increases);
     let steps = step_count(&counts[..n as usize]);

@@ -14,28 +14,16 @@ copy-l-requires c = record { readable = c.requires.readable; room = tree_asked (
 pub put_wire-requires-2 : goal.put_wire-requires-2
 put_wire-requires-2 c = last_asked _ c.args.a c.args.b c.requires.room c.put_wire.ensures c.copy-l.ensures.count c.copy-l.ensures.written
 
-pub overflow_add-l : goal.overflow_add-l
-overflow_add-l c = record { fits = omega (arith, fits _ c.args.a c.args.b c.requires.room c.put_wire.ensures c.copy-l.ensures.count c.copy-l.ensures.written) }
-
 pub put_series-requires : goal.put_series-requires
 put_series-requires c = let n = inner_asked _ c.args.a c.args.b c.requires.room c.put_wire.ensures c.copy-l.ensures.count c.copy-l.ensures.written c.put_wire-2.ensures in record { room = n.0; le_l = n.1; l_bound = n.2 }
 
-pub overflow_add-l-2 : goal.overflow_add-l-2
-overflow_add-l-2 c = record { fits = omega (arith, fits _ c.args.a c.args.b c.requires.room c.put_wire.ensures c.copy-l.ensures.count c.copy-l.ensures.written) }
-
 pub put_series-requires-2 : goal.put_series-requires-2
 put_series-requires-2 c = let n = outer_asked _ c.args.a c.args.b c.requires.room c.put_wire.ensures c.copy-l.ensures.count c.copy-l.ensures.written c.put_wire-2.ensures c.put_series.ensures in record { room = n.0; le_l = n.1; l_bound = n.2 }
-
-pub overflow_add-l-3 : goal.overflow_add-l-3
-overflow_add-l-3 c = record { fits = omega (arith, fits _ c.args.a c.args.b c.requires.room c.put_wire.ensures c.copy-l.ensures.count c.copy-l.ensures.written) }
 
 pub put_root-requires : goal.put_root-requires
 put_root-requires c =
     let n = root_asked _ c.args.a c.args.b c.requires.room c.put_wire.ensures c.copy-l.ensures.count c.copy-l.ensures.written c.put_wire-2.ensures c.put_series.ensures c.put_series-2.ensures in
     record { room = n.0; le_c = n.1 }
-
-pub overflow_add-result : goal.overflow_add-result
-overflow_add-result c = record { fits = omega (arith, fits _ c.args.a c.args.b c.requires.room c.put_wire.ensures c.copy-l.ensures.count c.copy-l.ensures.written) }
 
 pub returns : goal.returns
 returns c = let d = whole_done _ c.args.a c.args.b c.requires.room c.put_wire.ensures c.copy-l.ensures.count c.copy-l.ensures.written c.put_wire-2.ensures c.put_series.ensures c.put_series-2.ensures c.put_root.ensures.written in record { count = d.0; planted = d.1.0; written = d.1.1; held = c.put_root.ensures.held }

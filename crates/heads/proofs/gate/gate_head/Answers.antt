@@ -6,32 +6,17 @@ use Rattle.optimum.specs.Head.{rank}
 use Rattle.heads.proofs.Stepping.{passed_none, passed_more, found_step, found_none}
 use Rattle.heads.proofs.gate.gate_head.Goals as goal
 
-pub step_count-count-requires : goal.step_count-count-requires
-step_count-count-requires c = omega (arith, c.requires.0, c.requires.1.gates)
-
 pub loop-j-init : goal.loop-j-init
 loop-j-init c = passed_none _ _ _ _ _ _ _ c.requires.0
 
-pub step_width-width-requires : goal.step_width-width-requires
-step_width-width-requires c = (omega (arith, c.requires.0, c.requires.1.gates), omega (arith, c.step_count-count.ensures, c.loop-j-test.true, c.requires.1.few c.args.g c.requires.0))
-
-pub step_drop-requires : goal.step_drop-requires
-step_drop-requires c = (omega (arith, c.requires.0, c.requires.1.gates), omega (arith, c.step_count-count.ensures, c.loop-j-test.true, c.requires.1.few c.args.g c.requires.0))
-
-pub input_of-requires : goal.input_of-requires
-input_of-requires c = omega (arith, c.requires.0, c.requires.1.gates)
-
 pub tick_head-requires : goal.tick_head-requires
-tick_head-requires c = (rw c.step_drop.ensures (c.requires.1.drop_small c.args.g c.loop-j.j c.requires.0 (rw c.step_count-count.ensures at c.loop-j-test.true)), rw c.input_of.ensures (c.requires.1.input_small c.args.g c.requires.0), omega (arith, c.rank.ensures, c.gate_count.ensures, c.requires.0, c.requires.1.gates))
+tick_head-requires c = (rw c.step_drop.ensures (c.requires.1.drop_small c.args.g c.loop-j.j c.requires.0 (rw c.step_count-j-end.ensures at c.loop-j-test.true)), rw c.input_of.ensures (c.requires.1.input_small c.args.g c.requires.0), omega (arith, c.rank.ensures, c.gate_count.ensures, c.requires.0, c.requires.1.gates))
 
 pub returns-then-left-width : goal.returns-then-left-width
-returns-then-left-width c = found_step c.loop-j.invariant (rw c.step_count-count.ensures at c.loop-j-test.true) c.step_width-width.ensures c.if-left-width.true c.step_drop.ensures c.input_of.ensures (c.rank.ensures ∙ ap (λ (n : ℕ). rank n c.args.g) c.gate_count.ensures) c.tick_head.ensures
-
-pub overflow_add-j : goal.overflow_add-j
-overflow_add-j c = omega (arith, c.step_count-count.ensures, c.loop-j-test.true, c.requires.1.few c.args.g c.requires.0)
+returns-then-left-width c = found_step c.loop-j.invariant (rw c.step_count-j-end.ensures at c.loop-j-test.true) c.step_width-width.ensures c.if-left-width.true c.step_drop.ensures c.input_of.ensures (c.rank.ensures ∙ ap (λ (n : ℕ). rank n c.args.g) c.gate_count.ensures) c.tick_head.ensures
 
 pub loop-j-preserved : goal.loop-j-preserved
-loop-j-preserved c = passed_more c.loop-j.invariant (rw c.step_count-count.ensures at c.loop-j-test.true) c.step_width-width.ensures (omega arith)
+loop-j-preserved c = passed_more c.loop-j.invariant (rw c.step_count-j-end.ensures at c.loop-j-test.true) c.step_width-width.ensures (omega arith)
 
 pub returns : goal.returns
-returns c = c.none.ensures ∙ found_none c.loop-j.invariant (rw c.step_count-count.ensures at c.loop-j-test.false)
+returns c = c.none.ensures ∙ found_none c.loop-j.invariant (rw c.step_count-j-end.ensures at c.loop-j-test.false)

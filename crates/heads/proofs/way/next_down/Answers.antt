@@ -15,4 +15,4 @@ returns-in_default c =
 pub returns : goal.returns
 returns c =
     let e = c.in-Series.ensures in
-    goes_down c.requires.made (sym e.number) e.left e.gate e.right c.node_entry.ensures c.gate_entry.ensures c.node_entry-2.ensures c.leading.ensures
+    goes_down c.requires.made (sym e.number) e.left e.gate e.right c.node.ensures c.gate.ensures c.node-2.ensures c.leading.ensures

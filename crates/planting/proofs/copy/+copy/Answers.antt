@@ -5,56 +5,17 @@ use native.Mathlib.Omega.{arith}
 use Rattle.planting.proofs.Steps.{leaf_asked, leaf_done, left_asked, left_done, right_asked, right_done, top_asked, chain_done, beside_done}
 use Rattle.planting.proofs.copy.+copy.Goals as goal
 
-pub offset_bounds-kind-i : goal.offset_bounds-kind-i
-offset_bounds-kind-i t c = omega (arith, c.requires.readable.below)
-
-pub bounds-kind-i : goal.bounds-kind-i
-bounds-kind-i t c = c.requires.readable.below
-
-pub offset_bounds-gate-i : goal.offset_bounds-gate-i
-offset_bounds-gate-i t c = omega (arith, c.requires.readable.below)
-
-pub bounds-gate-i : goal.bounds-gate-i
-bounds-gate-i t c = c.requires.readable.below
-
 pub put_wire-requires : goal.put_wire-requires
 put_wire-requires t c = leaf_asked c.requires.readable c.args.c c.requires.room c.if-kind-i-eq0.true
-
-pub overflow_add-result : goal.overflow_add-result
-overflow_add-result t c = record { fits = omega (arith, (leaf_asked c.requires.readable c.args.c c.requires.room c.if-kind-i-eq0.true).few) }
 
 pub returns-then-kind-i-eq0 : goal.returns-then-kind-i-eq0
 returns-then-kind-i-eq0 t c = let d = leaf_done c.requires.readable c.args.c c.requires.room c.if-kind-i-eq0.true c.put_wire.ensures in record { count = d.0; written = d.1 }
 
-pub offset_bounds-left-i : goal.offset_bounds-left-i
-offset_bounds-left-i t c = omega (arith, c.requires.readable.below)
-
-pub bounds-left-i : goal.bounds-left-i
-bounds-left-i t c = c.requires.readable.below
-
 pub copy-l-requires : goal.copy-l-requires
 copy-l-requires t c = let n = left_asked c.requires.readable c.args.c c.requires.room c.if-kind-i-eq0.false _ refl in (omega (arith, n.0, c.decreases), (n.1, n.2))
 
-pub offset_bounds-right-i : goal.offset_bounds-right-i
-offset_bounds-right-i t c = omega (arith, c.requires.readable.below)
-
-pub bounds-right-i : goal.bounds-right-i
-bounds-right-i t c = c.requires.readable.below
-
 pub copy-r-requires : goal.copy-r-requires
 copy-r-requires t c = let n = right_asked c.requires.readable c.args.c c.requires.room c.if-kind-i-eq0.false (left_done c.requires.readable c.args.c c.requires.room c.if-kind-i-eq0.false _ refl c.copy-l.ensures.count c.copy-l.ensures.written) _ refl in (omega (arith, n.0, c.decreases), (n.1, n.2))
-
-pub offset_bounds-kind-i-2 : goal.offset_bounds-kind-i-2
-offset_bounds-kind-i-2 t c = omega (arith, c.requires.readable.below)
-
-pub bounds-kind-i-2 : goal.bounds-kind-i-2
-bounds-kind-i-2 t c = c.requires.readable.below
-
-pub offset_bounds-gate-i-then-kind-i-eq1 : goal.offset_bounds-gate-i-then-kind-i-eq1
-offset_bounds-gate-i-then-kind-i-eq1 t c = omega (arith, c.requires.readable.below)
-
-pub bounds-gate-i-then-kind-i-eq1 : goal.bounds-gate-i-then-kind-i-eq1
-bounds-gate-i-then-kind-i-eq1 t c = c.requires.readable.below
 
 pub put_series-requires : goal.put_series-requires
 put_series-requires t c = let n = top_asked c.requires.readable c.args.c c.requires.room c.if-kind-i-eq0.false (left_done c.requires.readable c.args.c c.requires.room c.if-kind-i-eq0.false _ refl c.copy-l.ensures.count c.copy-l.ensures.written) (right_done c.requires.readable c.args.c c.requires.room c.if-kind-i-eq0.false (left_done c.requires.readable c.args.c c.requires.room c.if-kind-i-eq0.false _ refl c.copy-l.ensures.count c.copy-l.ensures.written) _ refl c.copy-r.ensures.count c.copy-r.ensures.written) in record { room = n.0; le_l = n.1; l_bound = n.2 }
