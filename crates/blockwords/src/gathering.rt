@@ -34,10 +34,8 @@ fn gather_steps(
     requires { (g < max_gates) × (count ≤ max_steps) × (block_words ≤ length block.old) }
     ensures { StepsWritten g count step_widths.now drops.now block.old block.new }
 {
-    let mut j: u32 = 0;
-    while j < count {
+    for j in 0..count {
         gather_step(g, j, step_widths, drops, block);
-        j += 1;
     }
 }
 
@@ -81,9 +79,7 @@ pub fn gather(
     ensures { Gathered n counts.now step_widths.now drops.now inputs.now block.new }
 {
     block[GATE_COUNT] = n;
-    let mut g: u32 = 0;
-    while g < n {
+    for g in 0..n {
         gather_gate(g, counts, step_widths, drops, inputs, block);
-        g += 1;
     }
 }

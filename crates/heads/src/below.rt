@@ -42,6 +42,7 @@ pub fn renew_up(j: usize, i: usize, tree: &Tree, heads: &mut Heads)
     ensures { NodesRenewed tree.now heads.old heads.new j i }
 {
     let mut k = j;
+    // A `while`, not a `for`: each node names its parent.
     while k < i {
         renew(k, tree, heads);
         k = tree.parent_at(k);

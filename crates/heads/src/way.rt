@@ -52,6 +52,7 @@ pub fn descend(i: usize, tree: &Tree, heads: &Heads) -> usize
 {
     let mut j = i;
     let mut next = next_down(i, tree, heads);
+    // A `while`, not a `for`: each node says which child comes next.
     while next < j {
         j = next;
         next = next_down(j, tree, heads);

@@ -58,7 +58,7 @@ module _ (file : List ℕ) (h : BlockHead) (G : GateArrays) (W : WireArrays) (e 
     sound j = (
       record { end = length file; reads = read_as; network = (j the_block arrays_hold).0 },
       order_for (gates_are file h.gates h.wires h.arrival h.deadline h.activity G W (length file) read_as) (wired_joined the_block h.gates h.wires W.sources W.targets arrays_hold)
-      (j the_block arrays_hold).1,
+          (j the_block arrays_hold).1,
     )
 
     -- the refusals 8 and 9, and no other

@@ -51,6 +51,7 @@ impl Reduction {
         requires leaves { self.old.nodes.count ≡ wires.now.count }
         ensures { Ended wires.now.gates wires.now.count 0 (wires.now.gates - 1) (state wires.now self.old) (state wires.now self.new) self.new.nodes.count }
     {
+        // A `while`, not a `for`: the queue grows on the way.
         while self.queue.head < self.queue.tail {
             self.visit(wires);
             self.queue.head += 1;

@@ -51,6 +51,5 @@ shared_ref_as_front-tree_increases c = (the_lent c.requires.held.1).gates
 pub input_activities_of-inputs-requires : goal.input_activities_of-inputs-requires
 input_activities_of-inputs-requires c = (c.requires.held.0, c.args.block.now.arrival, c.args.block.now.deadline, c.requires.held.1)
 
-
 pub start_of-start-requires : goal.start_of-start-requires
 start_of-start-requires c = (c.requires.held.0, c.args.block.now.arrival, c.args.block.now.deadline, c.requires.held.1)
