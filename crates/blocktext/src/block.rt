@@ -23,11 +23,8 @@ pub fn print_block(block: &HeldBlock, saving: u64, increases: &[u32], out: &mut 
     let mut slacks = [0i32; MAX_GATES];
     write_slacks(
         block.gates,
-        block.wires,
         &block.order,
-        &block.sources,
-        &block.targets,
-        &block.wire_delays,
+        block.wires(),
         &block.delays,
         block.arrival,
         block.deadline,

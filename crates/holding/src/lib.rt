@@ -20,15 +20,7 @@ pub fn start_of(block: &HeldBlock) -> u32
     ensures start { (arrival deadline : ℕ) → result ≡ Slack.start (block_at arrival deadline block.now) }
     ensures small { result ≤ time_bound }
 {
-    start_time(
-        block.gates,
-        block.wires,
-        &block.order,
-        &block.sources,
-        &block.targets,
-        &block.wire_delays,
-        &block.delays,
-    )
+    start_time(block.gates, &block.order, block.wires(), &block.delays)
 }
 
 // The input activity of each gate of a block, whatever its arrival and deadline, in front; 0 behind.
@@ -40,9 +32,7 @@ pub fn input_activities_of(block: &HeldBlock) -> GateNumbers
     let mut inputs = [0; MAX_GATES];
     input_activities(
         block.gates,
-        block.wires,
-        &block.sources,
-        &block.targets,
+        block.wires(),
         &block.activities,
         0,
         block.activity,

@@ -3,7 +3,6 @@
 use mathlib.Core.Path.{◌≡◌, refl, sym, subst}
 use mathlib.Core.List.{List}
 use Prim.Native.Nat.{ℕ}
-use native.Mathlib.Omega.{arith}
 use lib.ListN.{length}
 use Rattle.std.specs.Prelude.{Ok, Err}
 use Rattle.model.specs.declared.Refusal.{Refusal}
@@ -17,7 +16,7 @@ use Rattle.blockfile.specs.Reads.{block_passing}
 use Rattle.ordering.specs.Wires.{Lent, Wired, InArrays}
 use Rattle.ordering.specs.Order.{Order}
 use Rattle.network.specs.Judged.{Judged}
-use Rattle.ordering.proofs.Wires.{wired_joined}
+use Rattle.ordering.proofs.Wired.{wired_joined}
 use Rattle.loading.proofs.Held.{gates_are, lent, in_arrays}
 use Rattle.loading.specs.Loads.{block_held, number_of, place_of}
 

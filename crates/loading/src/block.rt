@@ -3,6 +3,7 @@ ghost use Rattle.std.specs.Prelude.{◌≡◌};
 ghost use Rattle.loading.specs.HeldBlock.{no_block};
 
 use model::limits::{GateNumbers, MAX_GATES, MAX_PAIRS, MAX_WIRES, StepNumbers, WireNumbers};
+use ordering::wires::Wires;
 
 // Gate g stands at place g of the arrays of gates, step j of gate g at place MAX_STEPS * g + j, wire i at place i.
 #[derive(Drop)]
@@ -47,6 +48,20 @@ impl HeldBlock {
             targets: [0; MAX_WIRES],
             wire_delays: [0; MAX_WIRES],
             order: [0; MAX_GATES],
+        }
+    }
+    // The wires, in the block's arrays.
+    pub fn wires(&self) -> Wires<'_>
+        ensures count { result.count ≡ self.now.wires }
+        ensures sources { result.sources.now ≡ self.now.sources }
+        ensures targets { result.targets.now ≡ self.now.targets }
+        ensures delays { result.delays.now ≡ self.now.wire_delays }
+    {
+        Wires {
+            count: self.wires,
+            sources: &self.sources,
+            targets: &self.targets,
+            delays: &self.wire_delays,
         }
     }
 }

@@ -11,6 +11,7 @@ use blockfile::read::read_block;
 use model::Refusal;
 use model::limits::GATES_SQUARED;
 use network::judge_network;
+use ordering::wires::Wires;
 
 // The block of a file with an order of its gates along the wires, or the first refusal of 1 to 9.
 // What the arrays hold beyond the block's gates, steps and wires is free, but for the order, whose others are 0. For the calls above.
@@ -31,13 +32,13 @@ pub fn load(file: &[u8]) -> Result<HeldBlock, Refusal>
         &mut block.wire_delays,
         &mut seen,
     )?;
-    judge_network(
-        head.gates,
-        head.wires,
-        &block.sources,
-        &block.targets,
-        &mut block.order,
-    )?;
+    let wires = Wires {
+        count: head.wires,
+        sources: &block.sources,
+        targets: &block.targets,
+        delays: &block.wire_delays,
+    };
+    judge_network(head.gates, wires, &mut block.order)?;
     block.gates = head.gates;
     block.wires = head.wires;
     block.arrival = head.arrival;

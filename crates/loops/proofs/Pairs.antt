@@ -15,7 +15,7 @@ use Rattle.model.specs.Refusal.{OnLoop}
 use Rattle.ordering.specs.Wires.{Lent, Wired, InArrays}
 use Rattle.loops.specs.Square.{pair_place, Paired, PairMarks, Closed}
 use Rattle.ordering.proofs.Marks.{lowest_same}
-use Rattle.ordering.proofs.Wires.{wired_gates, wired_loop, loop_wired}
+use Rattle.ordering.proofs.Wired.{wired_gates, wired_loop, loop_wired}
 use Rattle.loops.proofs.Square.{paired_here, paired_kept, paired_old, marked_reaches, reaching_marked}
 
 -- wires that join gates below n join gates below any greater limit

@@ -11,14 +11,16 @@ ghost use Rattle.ordering.specs.Wires.{Lent, Wired, InArrays};
 ghost use Rattle.loops.specs.Square.{square_size, Paired, PairMarks, Closed};
 
 use model::limits::{GATES_SQUARED, MAX_GATES};
+use ordering::wires::Wires;
 
 // Marks each pair of gates that a wire joins; no mark may be set before.
-fn mark_pairs(m: usize, sources: &[u32], targets: &[u32], square: &mut [u8; GATES_SQUARED])
-    requires lent { Lent max_gates m sources.now targets.now }
+fn mark_pairs(wires: Wires, square: &mut [u8; GATES_SQUARED])
+    requires lent { Lent max_gates wires.count wires.sources.now wires.targets.now }
     requires unmarked { (i : ℕ) → i < square_size → get_or square.old i 0 ≡ 0 }
-    ensures { PairMarks (Wired m sources.now targets.now) max_gates square.new }
+    ensures { PairMarks (Wired wires.entry.count wires.entry.sources.now wires.entry.targets.now) max_gates square.new }
 {
-    for (&source, &target) in sources[..m].iter().zip(&targets[..m]) {
+    let m = wires.count;
+    for (&source, &target) in wires.sources[..m].iter().zip(&wires.targets[..m]) {
         square[source as usize * MAX_GATES + target as usize] = 1;
     }
 }
@@ -50,12 +52,12 @@ fn first_paired(n: usize, square: &[u8; GATES_SQUARED]) -> Option<usize>
 }
 
 // The lowest gate that reaches itself.
-pub fn lowest_on_loop(n: usize, m: usize, sources: &[u32], targets: &[u32]) -> Option<usize>
-    requires { Lent n m sources.now targets.now }
-    ensures { (B : Block) → InArrays B n m sources.now targets.now → LowestBelow (OnLoop B) n result }
+pub fn lowest_on_loop(n: usize, wires: Wires) -> Option<usize>
+    requires { Lent n wires.count wires.sources.now wires.targets.now }
+    ensures { (B : Block) → InArrays B n wires.entry.count wires.entry.sources.now wires.entry.targets.now → LowestBelow (OnLoop B) n result }
 {
     let mut square = [0u8; GATES_SQUARED];
-    mark_pairs(m, sources, targets, &mut square);
+    mark_pairs(wires, &mut square);
     close_square(n, &mut square);
     first_paired(n, &square)
 }

@@ -19,7 +19,7 @@ use Rattle.ordering.specs.Wires.{Lent, InArrays}
 use Rattle.ordering.specs.Order.{OrderFound}
 use Rattle.network.specs.Judged.{FaultFound, Judged}
 use Rattle.ordering.proofs.Reach.{leaves, from_reaches}
-use Rattle.ordering.proofs.Wires.{wired_gates, loop_wired}
+use Rattle.ordering.proofs.Wired.{wired_gates, loop_wired}
 use Rattle.ordering.proofs.OrderOrLoop.{no_loop}
 
 -- an order leaves no loop

@@ -16,7 +16,7 @@ use Rattle.ordering.specs.Marks.{Marks, Among}
 use Rattle.network.specs.Misplaced.{Misplaced, too_many, missing, Faulty}
 use Rattle.network.specs.Judged.{FaultFound}
 use Rattle.ordering.proofs.Marks.{lowest_same}
-use Rattle.ordering.proofs.Wires.{wired_gates, wired_joined, joined_wired}
+use Rattle.ordering.proofs.Wired.{wired_gates, wired_joined, joined_wired}
 
 -- One side: P tells which gates have a wire there.
 module _ (P : ℕ → Type 0) (n : ℕ) (marks : List ℕ) (M : Marks P n marks) (g end : ℕ) (gate : g < n) where

@@ -9,6 +9,7 @@ ghost use Rattle.network.specs.Judged.{FaultFound};
 
 use model::limits::MAX_GATES;
 use ordering::marking::mark_keys;
+use ordering::wires::Wires;
 
 // Whether gate g has a wire too many or none on one side, where `end` must have none and `mark` is not 0 if g has one.
 fn misplaced(g: usize, end: usize, mark: u8) -> bool
@@ -34,13 +35,13 @@ fn first_faulty(n: usize, ins: &[u8; MAX_GATES], outs: &[u8; MAX_GATES]) -> Opti
 }
 
 // The lowest gate at fault with its wires: gate 0 must have no wire in, gate n - 1 none out, every other gate both.
-pub fn lowest_at_fault(n: usize, m: usize, sources: &[u32], targets: &[u32]) -> Option<usize>
-    requires { Lent n m sources.now targets.now }
-    ensures { (B : Block) → InArrays B n m sources.now targets.now → FaultFound B result }
+pub fn lowest_at_fault(n: usize, wires: Wires) -> Option<usize>
+    requires { Lent n wires.count wires.sources.now wires.targets.now }
+    ensures { (B : Block) → InArrays B n wires.entry.count wires.entry.sources.now wires.entry.targets.now → FaultFound B result }
 {
     let mut ins = [0u8; MAX_GATES];
     let mut outs = [0u8; MAX_GATES];
-    mark_keys(m, targets, &mut ins);
-    mark_keys(m, sources, &mut outs);
+    mark_keys(wires.count, wires.targets, &mut ins);
+    mark_keys(wires.count, wires.sources, &mut outs);
     first_faulty(n, &ins, &outs)
 }

@@ -1,5 +1,5 @@
 // The judgement of a network: refusal 8 (a gate reaches itself), refusal 9 (a gate is at fault with its wires), or an order of its gates.
-// Every function here is public only for the crates above. `sources` and `targets` hold the gates that each of the `m` wires joins; wire delays play no part.
+// Every function here is public only for the crates above. Wire delays play no part.
 #![tactic(auto)]
 
 mod ends;
@@ -14,25 +14,20 @@ use ends::lowest_at_fault;
 use loops::lowest_on_loop;
 use model::Refusal;
 use ordering::order_gates;
+use ordering::wires::Wires;
 
 // Which of the refusals 8 and 9 fits the network first, with its gate; or that none does, and then the first n elements of `order` are an order of its gates.
-pub fn judge_network(
-    n: usize,
-    m: usize,
-    sources: &[u32],
-    targets: &[u32],
-    order: &mut [u32],
-) -> Result<(), Refusal>
-    requires lent { Lent n m sources.now targets.now }
+pub fn judge_network(n: usize, wires: Wires, order: &mut [u32]) -> Result<(), Refusal>
+    requires lent { Lent n wires.count wires.sources.now wires.targets.now }
     requires n_in_bounds { n ≤ length order.old }
-    ensures judged { (B : Block) → InArrays B n m sources.now targets.now → Judged B order.new result }
+    ensures judged { (B : Block) → InArrays B n wires.entry.count wires.entry.sources.now wires.entry.targets.now → Judged B order.new result }
     ensures same_beyond { SameBeyond n order.old order.new }
 {
-    if !order_gates(n, m, sources, targets, order) {
-        let gate = lowest_on_loop(n, m, sources, targets).unwrap();
+    if !order_gates(n, wires, order) {
+        let gate = lowest_on_loop(n, wires).unwrap();
         return Err(Refusal::Loop { gate });
     }
-    match lowest_at_fault(n, m, sources, targets) {
+    match lowest_at_fault(n, wires) {
         Some(gate) => Err(Refusal::Ends { gate }),
         None => Ok(()),
     }

@@ -12,7 +12,7 @@ use Rattle.ordering.specs.Order.{Order, OrderFound}
 use Rattle.ordering.specs.Counts.{Counted}
 use Rattle.ordering.proofs.Reach.{Reach}
 use Rattle.ordering.proofs.Passing.{counted_order, counted_loop}
-use Rattle.ordering.proofs.Wires.{joined_wired, wired_loop}
+use Rattle.ordering.proofs.Wired.{joined_wired, wired_loop}
 
 module _ (B : Block) (n m : ℕ) (sources targets : List ℕ) (I : InArrays B n m sources targets) where
   order-found : (order : List ℕ) → Order (Wired m sources targets) n order → OrderFound B order true

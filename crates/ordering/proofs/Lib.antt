@@ -3,7 +3,7 @@ pub mod Loop
 pub mod Pigeonhole
 pub mod Placing
 pub mod Marks
-pub mod Wires
+pub mod Wired
 pub mod Front
 pub mod Chains
 pub mod Walking

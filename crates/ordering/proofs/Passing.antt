@@ -19,7 +19,7 @@ use Rattle.ordering.specs.Order.{Order}
 use Rattle.ordering.specs.Chain.{last_before}
 use Rattle.ordering.specs.Counts.{into, wires_into, Visit, waits, placed_now, FreePlaced, Passed, Counted}
 use Rattle.ordering.proofs.Reach.{Reach}
-use Rattle.ordering.proofs.Wires.{wired_gates}
+use Rattle.ordering.proofs.Wired.{wired_gates}
 use Rattle.ordering.proofs.Chains.{last_at_most, none_after_last}
 use Rattle.ordering.proofs.Placing.{Waits, room, placed_next, whole_order, stuck_loop}
 use Rattle.ordering.proofs.Counts.{sum_term, sum_some, into_here, into_other}

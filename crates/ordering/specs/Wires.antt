@@ -4,6 +4,7 @@ use Rattle.std.specs.Prelude.{◌≡◌, List, ℕ, ◌≤◌, ◌<◌, length, 
 use Rattle.model.specs.Limits.{max_gates, max_wires}
 use Rattle.model.specs.Block.{Block, gate_count}
 use Rattle.model.specs.Arrays.{wires_in}
+use Rattle.ordering.specs.declared.wires.Wires.{Wires}
 
 -- What is asked of the arrays: they are long enough, and each wire joins gates below n.
 pub record Lent (n m : ℕ) (sources targets : List ℕ) : Type 0 where
@@ -26,3 +27,7 @@ pub record InArrays (B : Block) (n m : ℕ) (sources targets : List ℕ) : Type 
   pub delays : List ℕ
   pub gates : gate_count B ≡ n
   pub wires : B.wires ≡ wires_in m sources targets delays
+
+-- the same wires, each led the other way
+abbrev pub backwards : Wires → Wires
+backwards w = record { count = w.count; sources = w.targets; targets = w.sources; delays = w.delays }

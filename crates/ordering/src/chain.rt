@@ -1,5 +1,30 @@
 // The wires at each gate, as chains through the wires: so that one pass over all gates looks at each wire once.
+ghost use Rattle.std.specs.Prelude.{ℕ, ◌≤◌, ◌<◌, length, get_or};
+ghost use Rattle.model.specs.Limits.{max_gates, max_wires};
 ghost use Rattle.ordering.specs.Chain.{Chainable, Chained};
+
+use model::limits::{MAX_GATES, MAX_WIRES};
+
+// For each gate, one more than the last wire of its chain, and for each wire, one more than the wire before it; 0 where there is none.
+#[derive(Drop)]
+pub struct Chains {
+    pub heads: [u32; MAX_GATES],
+    pub links: [u32; MAX_WIRES],
+}
+
+impl Chains {
+    // The chains of the first m wires by the gates `ends` at one of their ends.
+    pub fn of(m: usize, ends: &[u32]) -> Self
+        requires few { (m ≤ max_wires) × (m ≤ length ends.now) }
+        requires to_gates { (i : ℕ) → i < m → get_or ends.now i 0 < max_gates }
+        ensures { Chained ends.now m result.heads result.links }
+    {
+        let mut heads = [0u32; MAX_GATES];
+        let mut links = [0u32; MAX_WIRES];
+        chain_wires(m, ends, &mut heads, &mut links);
+        Chains { heads, links }
+    }
+}
 
 // Links the first m wires by the gates `ends` at one of their ends.
 pub fn chain_wires(m: usize, ends: &[u32], heads: &mut [u32], links: &mut [u32])

@@ -1,10 +1,11 @@
 // An order of the gates along the wires, by counts: a gate is placed once no wire into it is left, and the wires out of each gate are passed in the order in which the gates were placed.
-// `left` holds for each gate the number of wires into it that are not passed. `sources` and `targets` hold the gates that each of the `m` wires joins; wire delays play no part.
+// `left` holds for each gate the number of wires into it that are not passed. Wire delays play no part.
 // Every function here is public only for the crates above.
 #![tactic(auto)]
 
 pub mod chain;
 pub mod marking;
+pub mod wires;
 
 ghost use Rattle.std.specs.Prelude.{◌≡◌, ℕ, ◌+◌, ◌-◌, ◌≤◌, ◌<◌, length, get_or, set};
 ghost use Rattle.model.specs.Limits.{max_gates, max_wires};
@@ -13,9 +14,10 @@ ghost use Rattle.ordering.specs.Wires.{Lent, InArrays};
 ghost use Rattle.ordering.specs.Order.{SameBeyond, OrderFound};
 ghost use Rattle.ordering.specs.Counts.{wires_into, Visit, FreePlaced, Linked, Counted};
 
-use chain::chain_wires;
+use chain::Chains;
 use marking::at;
-use model::limits::{MAX_GATES, MAX_WIRES};
+use model::limits::MAX_GATES;
+use wires::Wires;
 
 // Counts the wires into each gate.
 fn count_wires(m: usize, targets: &[u32], left: &mut [u32; MAX_GATES])
@@ -68,32 +70,29 @@ fn pass_wire(g: usize, left: &mut [u32; MAX_GATES], order: &mut [u32], count: us
 }
 
 // Passes the wires out of the gate at place `done` of the order; answers how many gates are placed.
-// (`n`, `m` and `sources` are there for the promise.)
+// (`n` is there for the promise.)
 fn pass_gate(
     n: usize,
-    m: usize,
-    sources: &[u32],
-    targets: &[u32],
-    heads: &[u32; MAX_GATES],
-    links: &[u32; MAX_WIRES],
+    wires: Wires,
+    chains: &Chains,
     left: &mut [u32; MAX_GATES],
     order: &mut [u32],
     done: usize,
     placed: usize,
 ) -> usize
-    requires linked { Linked n m sources.now targets.now heads.now links.now }
+    requires linked { Linked n wires.count wires.sources.now wires.targets.now chains.now.heads chains.now.links }
     requires n_in_bounds { n ≤ length order.old }
     requires turn { done < placed }
-    requires counted { Counted n m sources.now targets.now left.old order.old placed done m }
-    ensures counted { Counted n m sources.now targets.now left.new order.new result (done + 1) m }
+    requires counted { Counted n wires.count wires.sources.now wires.targets.now left.old order.old placed done wires.count }
+    ensures counted { Counted n wires.entry.count wires.entry.sources.now wires.entry.targets.now left.new order.new result (done + 1) wires.entry.count }
     ensures same_beyond { SameBeyond n order.old order.new }
 {
     let mut count = placed;
     // A `while`, not a `for`: each wire of the chain names the next.
-    let mut next = at(heads, at(order, done));
+    let mut next = at(&chains.heads, at(order, done));
     while 0 < next {
-        count = pass_wire(at(targets, next - 1), left, order, count);
-        next = at(links, next - 1);
+        count = pass_wire(at(wires.targets, next - 1), left, order, count);
+        next = at(&chains.links, next - 1);
     }
     count
 }
@@ -101,48 +100,39 @@ fn pass_gate(
 // Passes the wires out of every gate that is placed, now or later; answers how many gates are placed.
 fn pass_gates(
     n: usize,
-    m: usize,
-    sources: &[u32],
-    targets: &[u32],
-    heads: &[u32; MAX_GATES],
-    links: &[u32; MAX_WIRES],
+    wires: Wires,
+    chains: &Chains,
     left: &mut [u32; MAX_GATES],
     order: &mut [u32],
     placed: usize,
 ) -> usize
-    requires linked { Linked n m sources.now targets.now heads.now links.now }
+    requires linked { Linked n wires.count wires.sources.now wires.targets.now chains.now.heads chains.now.links }
     requires n_in_bounds { n ≤ length order.old }
-    requires counted { Counted n m sources.now targets.now left.old order.old placed 0 m }
-    ensures counted { Counted n m sources.now targets.now left.new order.new result result m }
+    requires counted { Counted n wires.count wires.sources.now wires.targets.now left.old order.old placed 0 wires.count }
+    ensures counted { Counted n wires.entry.count wires.entry.sources.now wires.entry.targets.now left.new order.new result result wires.entry.count }
     ensures same_beyond { SameBeyond n order.old order.new }
 {
     let mut count = placed;
     let mut done = 0;
     // A `while`, not a `for`: `count` grows on the way.
     while done < count {
-        count = pass_gate(
-            n, m, sources, targets, heads, links, left, order, done, count,
-        );
+        count = pass_gate(n, wires, chains, left, order, done, count);
         done += 1;
     }
     count
 }
 
 // Whether the gates have an order along the wires, which the first n elements of `order` then hold; if not, some gate reaches itself.
-pub fn order_gates(n: usize, m: usize, sources: &[u32], targets: &[u32], order: &mut [u32]) -> bool
-    requires lent { Lent n m sources.now targets.now }
+pub fn order_gates(n: usize, wires: Wires, order: &mut [u32]) -> bool
+    requires lent { Lent n wires.count wires.sources.now wires.targets.now }
     requires n_in_bounds { n ≤ length order.old }
-    ensures order_found { (B : Block) → InArrays B n m sources.now targets.now → OrderFound B order.new result }
+    ensures order_found { (B : Block) → InArrays B n wires.entry.count wires.entry.sources.now wires.entry.targets.now → OrderFound B order.new result }
     ensures same_beyond { SameBeyond n order.old order.new }
 {
-    let mut heads = [0u32; MAX_GATES];
-    let mut links = [0u32; MAX_WIRES];
+    let chains = Chains::of(wires.count, wires.sources);
     let mut left = [0u32; MAX_GATES];
-    chain_wires(m, sources, &mut heads, &mut links);
-    count_wires(m, targets, &mut left);
+    count_wires(wires.count, wires.targets, &mut left);
     let free = place_free(n, &left, order);
-    let count = pass_gates(
-        n, m, sources, targets, &heads, &links, &mut left, order, free,
-    );
+    let count = pass_gates(n, wires, &chains, &mut left, order, free);
     count == n
 }

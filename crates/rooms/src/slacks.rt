@@ -18,11 +18,8 @@ pub fn slacks_with_room(block: &HeldBlock, out: &mut [i32]) -> Result<usize, Ref
     }
     write_slacks(
         n,
-        block.wires,
         &block.order,
-        &block.sources,
-        &block.targets,
-        &block.wire_delays,
+        block.wires(),
         &block.delays,
         block.arrival,
         block.deadline,

@@ -4,7 +4,7 @@ ghost use Rattle.model.specs.Limits.{max_gates, max_wires};
 ghost use Rattle.ordering.specs.Chain.{Chained};
 
 use model::limits::{MAX_GATES, MAX_WIRES};
-use ordering::chain::chain_wires;
+use ordering::chain::Chains;
 
 // `count` wires of a block of `gates` gates, with the chains of those that leave a gate.
 #[derive(Drop)]
@@ -27,9 +27,7 @@ impl<'a> Wires<'a> {
         requires sources_below { (i : ℕ) → i < count → get_or sources.now i 0 < gates }
         ensures same { (result.gates ≡ gates) × (result.count ≡ count) × (result.sources ≡ sources.entry) }
     {
-        let mut heads = [0; MAX_GATES];
-        let mut links = [0; MAX_WIRES];
-        chain_wires(count, sources, &mut heads, &mut links);
+        let Chains { heads, links } = Chains::of(count, sources);
         Wires {
             gates,
             count,

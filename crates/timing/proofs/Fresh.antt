@@ -6,15 +6,10 @@ use Prim.Native.Nat.{ℕ}
 use native.Mathlib.Omega.{arith}
 use lib.ListN.{length}
 use Rattle.model.specs.Limits.{max_gates, max_wires}
-use Rattle.model.specs.InTime.{no_increase}
-use Rattle.ordering.specs.Chain.{Chainable, Chained}
-use Rattle.ordering.proofs.Chains.{zeros_chainable}
+use Rattle.ordering.specs.Chain.{Chained}
 use Rattle.timing.specs.Times.{Timeable, Ready}
 
 module _ (n m : ℕ) (order sources targets wire_delays gate_delays : List ℕ) (base : ℕ) (times : List ℕ) (able : Timeable n m order sources targets wire_delays gate_delays base times) where
-  pub fresh_chains : Chainable targets m (no_increase max_gates) (no_increase max_wires)
-  fresh_chains = zeros_chainable targets able.lent.gates able.lent.wires able.lent.targets_long able.lent.target_is_gate
-
   pub once_chained : (heads links : List ℕ)
       → length heads ≡ max_gates
       → length links ≡ max_wires

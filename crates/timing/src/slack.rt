@@ -6,6 +6,7 @@ ghost use Rattle.timing.specs.Slacks.{Reversed, Subtractable, Slackable, left_at
 
 use crate::times::times_from;
 use model::limits::MAX_GATES;
+use ordering::wires::Wires;
 
 // The first n elements of an order, the other way round.
 fn reverse_order(n: usize, order: &[u32], back: &mut [u32])
@@ -37,44 +38,21 @@ fn subtract_times(
 // The slack of each of n gates, to the front of `out`.
 pub fn write_slacks(
     n: usize,
-    m: usize,
     order: &[u32],
-    sources: &[u32],
-    targets: &[u32],
-    wire_delays: &[u32],
+    wires: Wires,
     gate_delays: &[u32],
     arrival: u32,
     deadline: u32,
     out: &mut [i32],
 )
-    requires { Slackable n m order.now sources.now targets.now wire_delays.now gate_delays.now arrival deadline out.old }
-    ensures { out.new ≡ over (build n (slack_in n m sources.now targets.now wire_delays.now gate_delays.now arrival deadline)) out.old }
+    requires { Slackable n wires.count order.now wires.sources.now wires.targets.now wires.delays.now gate_delays.now arrival deadline out.old }
+    ensures { out.new ≡ over (build n (slack_in n wires.entry.count wires.entry.sources.now wires.entry.targets.now wires.entry.delays.now gate_delays.now arrival deadline)) out.old }
 {
     let mut times = [0u32; MAX_GATES];
     let mut tails = [0u32; MAX_GATES];
     let mut back = [0u32; MAX_GATES];
     reverse_order(n, order, &mut back);
-    times_from(
-        n,
-        m,
-        order,
-        sources,
-        targets,
-        wire_delays,
-        gate_delays,
-        arrival,
-        &mut times,
-    );
-    times_from(
-        n,
-        m,
-        &back,
-        targets,
-        sources,
-        wire_delays,
-        gate_delays,
-        0,
-        &mut tails,
-    );
+    times_from(n, order, wires, gate_delays, arrival, &mut times);
+    times_from(n, &back, wires.reversed(), gate_delays, 0, &mut tails);
     subtract_times(n, &times, &tails, gate_delays, deadline, out);
 }

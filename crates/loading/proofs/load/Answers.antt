@@ -1,5 +1,4 @@
 -- `loading::load` meets its contract: the file read, then its network judged. Assumes nothing.
-use Rattle.std.specs.Prelude.{Ok, Err}
 use Rattle.std.proofs.lemmas.Result.{err_from_is_err_and}
 use Rattle.ranges.proofs.Pairs.{no_marks}
 use Rattle.blockfile.specs.Held.{gate_arrays, wire_arrays}

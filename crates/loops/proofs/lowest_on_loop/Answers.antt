@@ -11,7 +11,7 @@ mark_pairs-requires-clause-lent c = lent_all c.requires
 
 pub returns : goal.returns
 returns c =
-    λ B I. first_on_loop B c.args.n c.args.m c.args.sources.now c.args.targets.now I c.requires
+    λ B I. first_on_loop B c.args.n c.args.wires.count c.args.wires.sources.now c.args.wires.targets.now I c.requires
     c.mark_pairs.new.square c.close_square.new.square (pairs_fewer c.requires.gates c.mark_pairs.ensures) c.close_square.ensures
     c.first_paired.result c.first_paired.ensures
 

@@ -9,11 +9,11 @@ use Rattle.loops.proofs.mark_pairs.Goals as goal
 
 pub bounds-square-source : goal.bounds-square-source
 bounds-square-source c =
-    let turn = zip_turn (take c.args.m c.args.sources.now) (take c.args.m c.args.targets.now) c.loop-source.yielded _ _ c.next.new.self _ (search rules) (search rules) c.loop-source.yielded_by _ c.in-Some.is c.next.ensures.steps in
+    let turn = zip_turn (take c.args.wires.count c.args.wires.sources.now) (take c.args.wires.count c.args.wires.targets.now) c.loop-source.yielded _ _ c.next.new.self _ (search rules) (search rules) c.loop-source.yielded_by _ c.in-Some.is c.next.ensures.steps in
     let i = length c.loop-source.yielded in
-    let below : i < c.args.m = omega (arith, turn.0, length-take c.args.m c.args.sources.now) in
-    let s : c.in-Some.field-0-0.now ≡ get_or c.args.sources.now i 0 = turn.2 0 ∙ get_or-take c.args.m c.args.sources.now i 0 below in
-    let t : c.in-Some.field-0-1.now ≡ get_or c.args.targets.now i 0 = turn.3 0 ∙ get_or-take c.args.m c.args.targets.now i 0 below in
+    let below : i < c.args.wires.count = omega (arith, turn.0, length-take c.args.wires.count c.args.wires.sources.now) in
+    let s : c.in-Some.field-0-0.now ≡ get_or c.args.wires.sources.now i 0 = turn.2 0 ∙ get_or-take c.args.wires.count c.args.wires.sources.now i 0 below in
+    let t : c.in-Some.field-0-1.now ≡ get_or c.args.wires.targets.now i 0 = turn.3 0 ∙ get_or-take c.args.wires.count c.args.wires.targets.now i 0 below in
     let L = c.requires.lent in
     let source = L.source_is_gate i below in
     let target = L.target_is_gate i below in
@@ -21,13 +21,13 @@ bounds-square-source c =
 
 pub loop-source-preserved : goal.loop-source-preserved
 loop-source-preserved c =
-    let turn = zip_turn (take c.args.m c.args.sources.now) (take c.args.m c.args.targets.now) c.loop-source.yielded _ _ c.next.new.self _ (search rules) (search rules) c.loop-source.yielded_by _ c.in-Some.is c.next.ensures.steps in
+    let turn = zip_turn (take c.args.wires.count c.args.wires.sources.now) (take c.args.wires.count c.args.wires.targets.now) c.loop-source.yielded _ _ c.next.new.self _ (search rules) (search rules) c.loop-source.yielded_by _ c.in-Some.is c.next.ensures.steps in
     let i = length c.loop-source.yielded in
-    let below : i < c.args.m = omega (arith, turn.0, length-take c.args.m c.args.sources.now) in
-    let s : c.in-Some.field-0-0.now ≡ get_or c.args.sources.now i 0 = turn.2 0 ∙ get_or-take c.args.m c.args.sources.now i 0 below in
-    let t : c.in-Some.field-0-1.now ≡ get_or c.args.targets.now i 0 = turn.3 0 ∙ get_or-take c.args.m c.args.targets.now i 0 below in
+    let below : i < c.args.wires.count = omega (arith, turn.0, length-take c.args.wires.count c.args.wires.sources.now) in
+    let s : c.in-Some.field-0-0.now ≡ get_or c.args.wires.sources.now i 0 = turn.2 0 ∙ get_or-take c.args.wires.count c.args.wires.sources.now i 0 below in
+    let t : c.in-Some.field-0-1.now ≡ get_or c.args.wires.targets.now i 0 = turn.3 0 ∙ get_or-take c.args.wires.count c.args.wires.targets.now i 0 below in
     let L = c.requires.lent in
     let source = L.source_is_gate i below in
     let target = L.target_is_gate i below in
     rw length-append
-    (pairs_marked c.args.sources.now c.args.targets.now i _ _ s t max_gates c.loop-source.square L.gates (omega arith) (omega arith) c.loop-source.invariant)
+    (pairs_marked c.args.wires.sources.now c.args.wires.targets.now i _ _ s t max_gates c.loop-source.square L.gates (omega arith) (omega arith) c.loop-source.invariant)

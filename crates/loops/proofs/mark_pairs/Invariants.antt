@@ -7,4 +7,4 @@ use Rattle.loops.specs.Square.{PairMarks}
 use Rattle.loops.proofs.mark_pairs.Given as goal
 
 abbrev pub invariant-loop-source : goal.invariant-loop-source
-invariant-loop-source l = PairMarks (Wired (length l.yielded) l.sources l.targets) max_gates l.square
+invariant-loop-source l = PairMarks (Wired (length l.yielded) l.wires.sources.now l.wires.targets.now) max_gates l.square

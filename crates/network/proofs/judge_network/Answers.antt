@@ -5,13 +5,13 @@ use Rattle.network.proofs.judge_network.Goals as goal
 
 pub unwrap-gate-requires : goal.unwrap-gate-requires
 unwrap-gate-requires c =
-    let (B, I) = some_block c.args.n c.args.m c.args.sources.now c.args.targets.now in
-    some_found B c.args.n c.args.m c.args.sources.now c.args.targets.now I c.requires.lent
+    let (B, I) = some_block c.args.n c.args.wires.count c.args.wires.sources.now c.args.wires.targets.now in
+    some_found B c.args.n c.args.wires.count c.args.wires.sources.now c.args.wires.targets.now I c.requires.lent
     (c.if-not-order_gates.ensures.order_found B I) c.lowest_on_loop.result (c.lowest_on_loop.ensures B I)
 
 pub returns-then-not-order_gates-clause-judged : goal.returns-then-not-order_gates-clause-judged
 returns-then-not-order_gates-clause-judged c =
-    λ B I. lowest_found B c.args.n c.args.m c.args.sources.now c.args.targets.now I c.requires.lent
+    λ B I. lowest_found B c.args.n c.args.wires.count c.args.wires.sources.now c.args.wires.targets.now I c.requires.lent
     (c.if-not-order_gates.ensures.order_found B I) c.lowest_on_loop.result (c.lowest_on_loop.ensures B I) _ c.unwrap-gate.ensures
 
 pub returns-in-Some-clause-judged : goal.returns-in-Some-clause-judged

@@ -4,7 +4,7 @@ use Rattle.ordering.proofs.Turns.{Turn}
 use Rattle.ordering.proofs.pass_gate.Given as goal
 
 abbrev pub invariant-loop-next : goal.invariant-loop-next
-invariant-loop-next l = Turn l.n l.m l.sources l.targets l.initial.order l.left l.order l.count l.done l.next
+invariant-loop-next l = Turn l.n l.wires.count l.wires.sources.now l.wires.targets.now l.initial.order l.left l.order l.count l.done l.next
 
 abbrev pub decreases-loop-next : goal.decreases-loop-next
 decreases-loop-next l = l.next

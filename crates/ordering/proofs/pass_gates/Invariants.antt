@@ -8,7 +8,7 @@ use Rattle.ordering.proofs.pass_gates.Given as goal
 abbrev pub invariant-loop-done : goal.invariant-loop-done
 invariant-loop-done l =
     record {
-      counted : Counted l.n l.m l.sources l.targets l.left l.order l.count l.done l.m;
+      counted : Counted l.n l.wires.count l.wires.sources.now l.wires.targets.now l.left l.order l.count l.done l.wires.count;
       same_beyond : SameBeyond l.n l.initial.order l.order;
     }
 

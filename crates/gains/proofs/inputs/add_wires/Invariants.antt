@@ -4,4 +4,4 @@ use Rattle.gains.proofs.Activities.{Brought}
 use Rattle.gains.proofs.inputs.add_wires.Given as goal
 
 abbrev pub invariant-loop-i : goal.invariant-loop-i
-invariant-loop-i l = Brought l.n l.i l.sources l.targets l.activities l.out × SameBeyond l.n l.initial.out l.out
+invariant-loop-i l = Brought l.n l.i l.wires.sources.now l.wires.targets.now l.activities l.out × SameBeyond l.n l.initial.out l.out

@@ -9,7 +9,7 @@ use Rattle.network.proofs.ends.lowest_at_fault.Goals as goal
 
 pub returns : goal.returns
 returns c =
-    λ B I. fault_found B c.args.n c.args.m c.args.sources.now c.args.targets.now I c.requires
+    λ B I. fault_found B c.args.n c.args.wires.count c.args.wires.sources.now c.args.wires.targets.now I c.requires
     c.mark_keys.new.marks c.mark_keys-2.new.marks
     (c.mark_keys.ensures c.args.n (λ g h. get_or-replicate {A = ℕ} max_gates g 0 0 (omega arith)))
     (c.mark_keys-2.ensures c.args.n (λ g h. get_or-replicate {A = ℕ} max_gates g 0 0 (omega arith)))

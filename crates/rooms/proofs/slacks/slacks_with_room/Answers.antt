@@ -9,7 +9,9 @@ returns-then-out-n c = λ file held. too_short file _ _ _ _ _ _ _ c.args.block.n
 
 pub write_slacks-requires : goal.write_slacks-requires
 write_slacks-requires c =
-    slackable c.requires.1.held c.args.out.now c.if-out-n.false
+    let w = c.wires.ensures in
+    rw (w.count, w.sources, w.targets, w.delays)
+    (slackable c.requires.1.held c.args.out.now c.if-out-n.false)
 
 pub returns : goal.returns
-returns c = λ file held. slacks_given held.held c.args.out.now _ c.if-out-n.false c.write_slacks.ensures
+returns c = let w = c.wires.ensures in λ file held. slacks_given held.held c.args.out.now _ c.if-out-n.false (rw (w.count, w.sources, w.targets, w.delays) at c.write_slacks.ensures)

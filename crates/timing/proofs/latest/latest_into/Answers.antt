@@ -13,7 +13,7 @@ pub bounds-times-a : goal.bounds-times-a
 bounds-times-a c = omega (arith, c.requires.2.lent.source_is_gate (c.loop-next.next - 1) (walk_at _ _ _ _ _ _ _ _ _ c.loop-next.invariant c.loop-next-test.true).0, c.requires.2.times_long)
 
 pub overflow_add-times : goal.overflow_add-times
-overflow_add-times c = omega (arith, c.requires.2.bounded (get_or c.args.sources.now (c.loop-next.next - 1) 0), c.requires.2.of_wire (c.loop-next.next - 1) (walk_at _ _ _ _ _ _ _ _ _ c.loop-next.invariant c.loop-next-test.true).0)
+overflow_add-times c = omega (arith, c.requires.2.bounded (get_or c.args.wires.sources.now (c.loop-next.next - 1) 0), c.requires.2.of_wire (c.loop-next.next - 1) (walk_at _ _ _ _ _ _ _ _ _ c.loop-next.invariant c.loop-next-test.true).0)
 
 pub loop-next-smaller : goal.loop-next-smaller
 loop-next-smaller c = walk_falls _ _ _ _ _ _ _ _ _ _ _ _ c.requires.2.chained c.loop-next.invariant c.loop-next-test.true refl

@@ -3,7 +3,7 @@ use Rattle.timing.proofs.Walk.{Walk}
 use Rattle.timing.proofs.latest.latest_into.Given as goal
 
 abbrev pub invariant-loop-next : goal.invariant-loop-next
-invariant-loop-next l = Walk l.sources l.targets l.wire_delays l.times l.base l.g l.m l.latest l.next
+invariant-loop-next l = Walk l.wires.sources.now l.wires.targets.now l.wires.delays.now l.times l.base l.g l.wires.count l.latest l.next
 
 abbrev pub decreases-loop-next : goal.decreases-loop-next
 decreases-loop-next l = l.next

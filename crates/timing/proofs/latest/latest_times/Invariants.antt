@@ -4,4 +4,4 @@ use Rattle.timing.proofs.Found.{Found}
 use Rattle.timing.proofs.latest.latest_times.Given as goal
 
 abbrev pub invariant-loop-gate : goal.invariant-loop-gate
-invariant-loop-gate l = (r : Ready l.n l.m l.order l.sources l.targets l.wire_delays l.gate_delays l.heads l.links l.base l.initial.times) → Found l.n l.m l.order l.sources l.targets l.wire_delays l.gate_delays l.heads l.links l.base l.initial.times r l.gate-index l.times
+invariant-loop-gate l = (r : Ready l.n l.wires.count l.order l.wires.sources.now l.wires.targets.now l.wires.delays.now l.gate_delays l.chains.heads l.chains.links l.base l.initial.times) → Found l.n l.wires.count l.order l.wires.sources.now l.wires.targets.now l.wires.delays.now l.gate_delays l.chains.heads l.chains.links l.base l.initial.times r l.gate-index l.times
