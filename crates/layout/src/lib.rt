@@ -10,6 +10,7 @@ ghost use Rattle.model.specs.Layout.{layout_answer, AnswersLayout, NoSavingRefus
 
 use laying::answer::{LayoutAnswer, refused};
 use laying::lay_best;
+use loading::block::HeldBlock;
 use loading::load;
 
 // The best increases of a block file, four bytes each, to the front of `increases`, or the first refusal of 1 to 12 that fits.
@@ -18,9 +19,9 @@ pub extern "C" fn honduvi_best_increases(file: &[u8], increases: &mut [u8]) -> L
     ensures answers_layout { AnswersLayout file.now increases.old (record { answer = layout_answer result.number result.place result.saving; memory = increases.new }) }
     ensures no_saving_refused { NoSavingRefused result.number result.saving }
 {
-    let loaded = load(file);
-    match loaded {
+    let mut block = HeldBlock::EMPTY;
+    match load(file, &mut block) {
         Err(refusal) => refused(refusal),
-        Ok(block) => lay_best(&block, increases),
+        Ok(()) => lay_best(&block, increases),
     }
 }

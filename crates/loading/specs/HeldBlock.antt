@@ -1,7 +1,6 @@
 -- What the arrays of a held block hold, and what loading a file answers.
-use Rattle.std.specs.Prelude.{Result, Ok, Err, List, ℕ, replicate}
+use Rattle.std.specs.Prelude.{Result, Ok, Err, List, ℕ}
 use Rattle.model.specs.declared.Refusal.{Refusal}
-use Rattle.model.specs.Limits.{max_gates, max_wires, max_pairs}
 use Rattle.model.specs.Block.{Block}
 use Rattle.model.specs.Refusal.{IllFormed}
 use Rattle.blockfile.specs.Held.{GateArrays, gate_arrays, WireArrays, wire_arrays}
@@ -24,26 +23,6 @@ block_at arrival deadline b = block_held b.gates b.wires arrival deadline b.acti
 abbrev pub block_in : HeldBlock → Block
 block_in b = block_at b.arrival b.deadline b
 
--- no gate and no wire: 0 everywhere
-abbrev pub no_block : HeldBlock
-no_block =
-    record {
-      gates = 0;
-      wires = 0;
-      arrival = 0;
-      deadline = 0;
-      activity = 0;
-      delays = replicate max_gates 0;
-      activities = replicate max_gates 0;
-      counts = replicate max_gates 0;
-      step_widths = replicate max_pairs 0;
-      drops = replicate max_pairs 0;
-      sources = replicate max_wires 0;
-      targets = replicate max_wires 0;
-      wire_delays = replicate max_wires 0;
-      order = replicate max_gates 0;
-    }
-
 -- the file is well-formed and the block with this arrival and deadline is its own, with an order of its gates along the wires; the block is its own
 abbrev pub HoldsAt : List ℕ → ℕ → ℕ → HeldBlock → Type 0
 HoldsAt file arrival deadline b = HeldFile file b.gates b.wires arrival deadline b.activity (gates_of b) (wires_of b) b.order
@@ -60,8 +39,8 @@ pub record HoldsTimes (file : List ℕ) (b : HeldBlock) : Type 0 where
   pub drops : List ℕ
   pub held : HeldFile file b.gates b.wires b.arrival b.deadline activity (gate_arrays b.delays activities counts step_widths drops) (wires_of b) b.order
 
--- The file is well-formed and the block is its own, with an order of its gates along the wires in the first elements of `order`, as many as there are gates, whose others are 0; or the refusal is the first of 1 to 9 that fits.
--- Free is what the gate and wire arrays hold beyond the block's gates, steps and wires.
-abbrev pub Loads : List ℕ → Result HeldBlock Refusal → Type 0
-Loads file (Ok b) = Holds file b × SameBeyond b.gates no_block.order b.order
-Loads file (Err r) = IllFormed file (number_of r) (place_of r)
+-- The file is well-formed and the block is its own, with an order of its gates along the wires in the first elements of `order`, as many as there are gates, whose others are as before; or the refusal is the first of 1 to 9 that fits.
+-- Free is what the gate and wire arrays hold beyond the block's gates, steps and wires, and after a refusal what the block holds.
+abbrev pub Loads : List ℕ → Result (Unit {0}) Refusal → HeldBlock → HeldBlock → Type 0
+Loads file (Ok _) before b = Holds file b × SameBeyond b.gates before.order b.order
+Loads file (Err r) before b = IllFormed file (number_of r) (place_of r)

@@ -1,6 +1,5 @@
 // A block in arrays, with an order of its gates along the wires.
 ghost use Rattle.std.specs.Prelude.{◌≡◌};
-ghost use Rattle.loading.specs.HeldBlock.{no_block};
 
 use model::limits::{GateNumbers, MAX_GATES, MAX_PAIRS, MAX_WIRES, StepNumbers, WireNumbers};
 use ordering::wires::Wires;
@@ -30,26 +29,23 @@ pub struct HeldBlock {
 
 impl HeldBlock {
     // No gate and no wire: 0 everywhere.
-    pub(crate) fn empty() -> Self
-        ensures { result ≡ no_block }
-    {
-        Self {
-            gates: 0,
-            wires: 0,
-            arrival: 0,
-            deadline: 0,
-            activity: 0,
-            delays: [0; MAX_GATES],
-            activities: [0; MAX_GATES],
-            counts: [0; MAX_GATES],
-            step_widths: [0; MAX_PAIRS],
-            drops: [0; MAX_PAIRS],
-            sources: [0; MAX_WIRES],
-            targets: [0; MAX_WIRES],
-            wire_delays: [0; MAX_WIRES],
-            order: [0; MAX_GATES],
-        }
-    }
+    pub const EMPTY: HeldBlock = HeldBlock {
+        gates: 0,
+        wires: 0,
+        arrival: 0,
+        deadline: 0,
+        activity: 0,
+        delays: [0; MAX_GATES],
+        activities: [0; MAX_GATES],
+        counts: [0; MAX_GATES],
+        step_widths: [0; MAX_PAIRS],
+        drops: [0; MAX_PAIRS],
+        sources: [0; MAX_WIRES],
+        targets: [0; MAX_WIRES],
+        wire_delays: [0; MAX_WIRES],
+        order: [0; MAX_GATES],
+    };
+
     // The wires, in the block's arrays.
     pub fn wires(&self) -> Wires<'_>
         ensures count { result.count ≡ self.now.wires }

@@ -13,12 +13,12 @@ use model::limits::GATES_SQUARED;
 use network::judge_network;
 use ordering::wires::Wires;
 
-// The block of a file with an order of its gates along the wires, or the first refusal of 1 to 9.
-// What the arrays hold beyond the block's gates, steps and wires is free, but for the order, whose others are 0. For the calls above.
-pub fn load(file: &[u8]) -> Result<HeldBlock, Refusal>
-    ensures { Loads file.now result }
+// Loads the block of a file, with an order of its gates along the wires, whose others are as before; or answers the first refusal of 1 to 9.
+// What the other arrays hold beyond the block's gates, steps and wires is free, and after a refusal what the block holds. For the calls above.
+// The block is lent, since one that is handed back is copied.
+pub fn load(file: &[u8], block: &mut HeldBlock) -> Result<(), Refusal>
+    ensures { Loads file.now result block.old block.new }
 {
-    let mut block = HeldBlock::empty();
     let mut seen = [0u8; GATES_SQUARED];
     let head = read_block(
         file,
@@ -44,5 +44,5 @@ pub fn load(file: &[u8]) -> Result<HeldBlock, Refusal>
     block.arrival = head.arrival;
     block.deadline = head.deadline;
     block.activity = head.activity;
-    Ok(block)
+    Ok(())
 }

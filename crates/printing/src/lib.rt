@@ -7,6 +7,7 @@ ghost use Rattle.printing.specs.PrintoutIn.{PrintoutIn};
 
 use crate::held::print_held;
 use blocktext::refusal::print_refusal;
+use loading::block::HeldBlock;
 use loading::load;
 use model::limits::MAX_GATES;
 use text::lines::{GATE_ROOM, HEAD_ROOM};
@@ -21,9 +22,9 @@ pub fn printout(file: &[u8], out: &mut [u8]) -> usize
     if out.len() < PRINTOUT_BYTES {
         return 0;
     }
-    let loaded = load(file);
-    match loaded {
+    let mut block = HeldBlock::EMPTY;
+    match load(file, &mut block) {
         Err(refusal) => print_refusal(refusal, out),
-        Ok(block) => print_held(&block, out),
+        Ok(()) => print_held(&block, out),
     }
 }

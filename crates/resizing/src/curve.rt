@@ -1,6 +1,7 @@
 // The saving curve of a block file.
 ghost use Rattle.model.specs.Answer.{AnswersCurve, CurveBounds, curve_answer};
 
+use loading::block::HeldBlock;
 use loading::load;
 use model::{CurveFound, Refusal};
 use rooms::curve::curve_with_room;
@@ -10,6 +11,7 @@ pub fn curve(file: &[u8], widths: &mut [u32], gains: &mut [u64]) -> Result<Curve
     ensures answers_curve { AnswersCurve file.now (record { for_widths = widths.old; for_gains = gains.old }) (record { answer = curve_answer result; memory = record { for_widths = widths.new; for_gains = gains.new } }) }
     ensures curve_bounds { CurveBounds result gains.new }
 {
-    let block = load(file)?;
+    let mut block = HeldBlock::EMPTY;
+    load(file, &mut block)?;
     curve_with_room(&block, widths, gains)
 }

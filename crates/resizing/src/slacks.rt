@@ -1,6 +1,7 @@
 // The slacks of a block file's gates.
 ghost use Rattle.model.specs.Answer.{AnswersSlacks, slacks_answer};
 
+use loading::block::HeldBlock;
 use loading::load;
 use model::Refusal;
 use rooms::slacks::slacks_with_room;
@@ -9,6 +10,7 @@ use rooms::slacks::slacks_with_room;
 pub fn slacks(file: &[u8], out: &mut [i32]) -> Result<usize, Refusal>
     ensures { AnswersSlacks file.now out.old (record { answer = slacks_answer result; memory = out.new }) }
 {
-    let block = load(file)?;
+    let mut block = HeldBlock::EMPTY;
+    load(file, &mut block)?;
     slacks_with_room(&block, out)
 }

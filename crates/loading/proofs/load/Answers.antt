@@ -1,4 +1,5 @@
 -- `loading::load` meets its contract: the file read, then its network judged. Assumes nothing.
+use native.Mathlib.Omega.{arith}
 use Rattle.std.proofs.lemmas.Result.{err_from_is_err_and}
 use Rattle.ranges.proofs.Pairs.{no_marks}
 use Rattle.blockfile.specs.Held.{gate_arrays, wire_arrays}
@@ -14,10 +15,10 @@ pub judge_network-requires-clause-lent : goal.judge_network-requires-clause-lent
 judge_network-requires-clause-lent c =
     lent_read c.args.file.now c.in_ok-head.head (gate_arrays c.read_block.new.delays c.read_block.new.activities c.read_block.new.counts c.read_block.new.step_widths c.read_block.new.drops)
     (wire_arrays c.read_block.new.sources c.read_block.new.targets c.read_block.new.wire_delays) (rw c.in_ok-head.was at c.read_block.ensures)
-    (wire_room (rw c.empty-block.ensures at c.read_block.auto.sources) (rw c.empty-block.ensures at c.read_block.auto.targets) (rw c.empty-block.ensures at c.read_block.auto.wire_delays))
+    (wire_room (omega (arith, c.read_block.auto.sources)) (omega (arith, c.read_block.auto.targets)) (omega (arith, c.read_block.auto.wire_delays)))
 
 pub judge_network-requires-clause-n_in_bounds : goal.judge_network-requires-clause-n_in_bounds
-judge_network-requires-clause-n_in_bounds c = let lent = judge_network-requires-clause-lent c in rw c.empty-block.ensures lent.gates
+judge_network-requires-clause-n_in_bounds c = let lent = judge_network-requires-clause-lent c in omega (arith, lent.gates)
 
 pub returns-in_err-judge_network : goal.returns-in_err-judge_network
 returns-in_err-judge_network c =
@@ -32,4 +33,4 @@ returns c =
     let s = sound c.args.file.now c.in_ok-head.head (gate_arrays c.read_block.new.delays c.read_block.new.activities c.read_block.new.counts c.read_block.new.step_widths c.read_block.new.drops)
     (wire_arrays c.read_block.new.sources c.read_block.new.targets c.read_block.new.wire_delays) (rw c.in_ok-head.was at c.read_block.ensures)
     c.judge_network.new.order (rw c.in_ok-judge_network.was at c.judge_network.ensures.judged) in
-    (held_file c.args.file.now _ _ _ _ _ _ _ _ (s.0, s.1, tt {0}) (rw c.empty-block.ensures at c.read_block.auto.delays) (rw c.empty-block.ensures at c.read_block.auto.activities) (rw c.empty-block.ensures at c.read_block.auto.counts) (rw c.empty-block.ensures at c.read_block.auto.step_widths) (rw c.empty-block.ensures at c.read_block.auto.drops) (rw c.empty-block.ensures at c.read_block.auto.sources) (rw c.empty-block.ensures at c.read_block.auto.targets) (rw c.empty-block.ensures at c.read_block.auto.wire_delays) (rw c.empty-block.ensures at c.judge_network.auto.order), rw c.empty-block.ensures at c.judge_network.ensures.same_beyond)
+    (held_file c.args.file.now _ _ _ _ _ _ _ _ (s.0, s.1, tt {0}) (omega (arith, c.read_block.auto.delays)) (omega (arith, c.read_block.auto.activities)) (omega (arith, c.read_block.auto.counts)) (omega (arith, c.read_block.auto.step_widths)) (omega (arith, c.read_block.auto.drops)) (omega (arith, c.read_block.auto.sources)) (omega (arith, c.read_block.auto.targets)) (omega (arith, c.read_block.auto.wire_delays)) (omega (arith, c.judge_network.auto.order)), c.judge_network.ensures.same_beyond)

@@ -2,11 +2,11 @@
 use Rattle.loading.proofs.Refused.{passed_up}
 use Rattle.resizing.proofs.curve.curve.Goals as goal
 
-pub returns-in_err-block-clause-answers_curve : goal.returns-in_err-block-clause-answers_curve
-returns-in_err-block-clause-answers_curve c = passed_up _ c.from_residual.result c.in_err-block.field-0.0 c.from_residual.ensures.1 c.in_err-block.ensures
+pub returns-in_err-load-clause-answers_curve : goal.returns-in_err-load-clause-answers_curve
+returns-in_err-load-clause-answers_curve c = passed_up _ c.from_residual.result c.in_err-load.field-0.0 c.from_residual.ensures.1 c.in_err-load.ensures
 
 pub returns-clause-answers_curve : goal.returns-clause-answers_curve
-returns-clause-answers_curve c = c.curve_with_room.ensures.curve c.args.file.now _ _ c.in_ok-block.ensures.0
+returns-clause-answers_curve c = c.curve_with_room.ensures.curve c.args.file.now _ _ c.in_ok-load.ensures.0
 
 pub curve_with_room-requires : goal.curve_with_room-requires
-curve_with_room-requires c = (c.args.file.now, c.in_ok-block.block.arrival, c.in_ok-block.block.deadline, c.in_ok-block.ensures.0)
+curve_with_room-requires c = (c.args.file.now, c.load.new.block.arrival, c.load.new.block.deadline, c.in_ok-load.ensures.0)
