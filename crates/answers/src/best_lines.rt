@@ -18,7 +18,7 @@ pub fn best_held(block: &HeldBlock, increases: &mut [u32]) -> Result<BestFound, 
     ensures { (file : List ℕ) → Holds file block.now → BestLines (block_in block.now) increases.old (record { answer = best_answer result; memory = increases.new }) }
 {
     let n = block.gates;
-    let mut tree = Tree::new();
+    let mut tree = Tree::EMPTY;
     let planted = plant_block(
         n,
         block.wires,

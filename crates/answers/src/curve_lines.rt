@@ -25,7 +25,7 @@ pub fn curve_held(
     ensures curve_bounds { CurveBounds result gains.new }
 {
     let n = block.gates;
-    let mut tree = Tree::new();
+    let mut tree = Tree::EMPTY;
     let planted = plant_block(
         n,
         block.wires,

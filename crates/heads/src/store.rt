@@ -1,11 +1,11 @@
 // The heads of gates and of nodes, stored.
 ghost use Rattle.std.specs.Prelude.{◌≡◌};
 ghost use Rattle.ties.specs.Code.{head_of};
-ghost use Rattle.heads.specs.Stored.{AllThere, GateRoom, NodeRoom, NodeWritten, GateWritten, gate_heads, node_heads, head_at};
+ghost use Rattle.heads.specs.Stored.{GateRoom, NodeRoom, NodeWritten, GateWritten, gate_heads, node_heads, head_at};
 
 use model::limits::MAX_GATES;
 use planting::MAX_NODES;
-use ties::{Head, gain_in, none};
+use ties::{Head, gain_in};
 
 // A head for each gate and for each node.
 #[derive(Drop)]
@@ -15,15 +15,11 @@ pub struct Heads {
 }
 
 impl Heads {
-    // Heads that say that there are none.
-    pub fn new() -> Heads
-        ensures { AllThere result }
-    {
-        Heads {
-            gates: [none(); MAX_GATES],
-            nodes: [none(); MAX_NODES],
-        }
-    }
+    // Heads that say that there are none: a key of 0 has no gain.
+    pub const EMPTY: Heads = Heads {
+        gates: [Head { key: 0, width: 0 }; MAX_GATES],
+        nodes: [Head { key: 0, width: 0 }; MAX_NODES],
+    };
 
     // The head of gate g.
     pub fn gate(&self, g: usize) -> Head

@@ -1,6 +1,6 @@
 // Nodes written into a tree, and read from it.
-ghost use Rattle.std.specs.Prelude.{◌≡◌, ◌+◌, ◌≤◌, get_or, length};
-ghost use Rattle.planting.specs.Copy.{max_nodes, with_leaf, with_parent, rooted, Room};
+ghost use Rattle.std.specs.Prelude.{◌≡◌, ◌+◌, ◌≤◌, get_or};
+ghost use Rattle.planting.specs.Copy.{with_leaf, with_parent, rooted, Room};
 ghost use Rattle.planting.specs.TreeWords.{plot_of, nodes_held, tree_nodes, tree_parents, above_put, NodeIn, KindIs};
 
 use crate::MAX_NODES;
@@ -9,18 +9,13 @@ use crate::tree::{Kind, Node, Tree};
 #[tactic(auto, using(crate::proofs::Writing::within))]
 impl Tree {
     // A tree of no node.
-    pub fn new() -> Tree
-        ensures held { nodes_held result ≡ 0 }
-        ensures long { length result.nodes ≡ max_nodes }
-    {
-        Tree {
-            count: 0,
-            nodes: [Node {
-                kind: Kind::Wire { delay: 0 },
-                parent: 0,
-            }; MAX_NODES],
-        }
-    }
+    pub const EMPTY: Tree = Tree {
+        count: 0,
+        nodes: [Node {
+            kind: Kind::Wire { delay: 0 },
+            parent: 0,
+        }; MAX_NODES],
+    };
 
     // What node i is.
     pub fn kind_at(&self, i: usize) -> Kind

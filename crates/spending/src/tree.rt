@@ -56,7 +56,7 @@ fn tree_runs(
     let mut block = [0u32; BLOCK_WORDS];
     gather(n, counts, step_widths, drops, inputs, &mut block);
     let mut lengths = [0u32; MAX_NODES];
-    let mut heads = Heads::new();
+    let mut heads = Heads::EMPTY;
     start(&block, tree, delays, &mut lengths, increases, &mut heads);
     let saving = list_saving(n as usize, counts, step_widths, drops, inputs, increases);
     let steps = step_count(&counts[..n as usize]);

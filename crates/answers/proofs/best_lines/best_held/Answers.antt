@@ -10,7 +10,7 @@ use Rattle.answers.proofs.Lines.{in_front, late_line, best_line}
 use Rattle.answers.proofs.best_lines.best_held.Goals as goal
 
 pub plant_block-planted-requires : goal.plant_block-planted-requires
-plant_block-planted-requires c = record { given = (block c.requires.held.1, given c.requires.held.1); wires_long = wires_long c.requires.held.1; nodes_long = omega (arith, c.new-tree.ensures.long) }
+plant_block-planted-requires c = record { given = (block c.requires.held.1, given c.requires.held.1); wires_long = wires_long c.requires.held.1; nodes_long = omega arith }
 
 pub returns-in-Err : goal.returns-in-Err
 returns-in-Err c = λ file h. fits _ (rw c.in-Err.is at (c.plant_block-planted.ensures.planted (block h) (given h))).0 refl

@@ -12,7 +12,7 @@ pub gather-requires : goal.gather-requires
 gather-requires c = record { gates = gates_few c.requires.tree_held.1; few = counts_small c.requires.tree_held.1; long = omega arith }
 
 pub start-requires : goal.start-requires
-start-requires c = record { sizable = can_start c.args.tree.now c.requires.tree_held.1 c.gather.ensures _ c.requires.increases_len c.new-heads.ensures; steps_held = steps_held c.gather.ensures (steps_lent c.requires.tree_held.1); measurable = measurable c.requires.tree_held.1 (omega arith) }
+start-requires c = record { sizable = can_start c.args.tree.now c.requires.tree_held.1 c.gather.ensures _ c.requires.increases_len (record { gates = omega arith; nodes = omega arith }); steps_held = steps_held c.gather.ensures (steps_lent c.requires.tree_held.1); measurable = measurable c.requires.tree_held.1 (omega arith) }
 
 pub list_saving-saving-requires : goal.list_saving-saving-requires
 list_saving-saving-requires c = earnable c.requires.tree_held.1 (c.start.auto.increases ∙ c.requires.increases_len)
