@@ -32,6 +32,7 @@ pub fn load(file: &[u8], block: &mut HeldBlock) -> Result<(), Refusal>
         &mut block.wire_delays,
         &mut seen,
     )?;
+    // Not `block.wires()`: `block.order` is lent to be written at the same time.
     let wires = Wires {
         count: head.wires,
         sources: &block.sources,

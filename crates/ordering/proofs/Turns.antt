@@ -44,29 +44,26 @@ module _ {n m : ℕ} {sources targets heads links : List ℕ} (K : Linked n m so
       }
 
   module _ {order₀ left order : List ℕ} {count done next : ℕ} (T : Turn n m sources targets order₀ left order count done next) where
-    module _ (more : 0 < next) where
-      one_more : next ≡ suc (next - 1)
-      one_more = omega arith
+    module _ {i : ℕ} (more : next ≡ suc i) where
+      at_wire : (i < T.last) × (get_or sources i 0 ≡ get_or order done 0)
+      at_wire = last_leads_there sources T.last (get_or order done 0) i (sym T.next_is ∙ more)
 
-      at_wire : (next - 1 < T.last) × (get_or sources (next - 1) 0 ≡ get_or order done 0)
-      at_wire = last_leads_there sources T.last (get_or order done 0) (next - 1) (sym T.next_is ∙ one_more)
-
-      pub turn_wire : next - 1 < m
+      pub turn_wire : i < m
       turn_wire = omega (arith, at_wire.0, T.last_in)
 
-      pub turn_falls : {further : ℕ} → further ≡ get_or links (next - 1) 0 → further < next
-      turn_falls e = omega (arith, K.chained.link (next - 1) turn_wire, last_at_most sources (next - 1) (get_or sources (next - 1) 0))
+      pub turn_falls : {further : ℕ} → further ≡ get_or links i 0 → further < next
+      turn_falls e = omega (arith, more, K.chained.link i turn_wire, last_at_most sources i (get_or sources i 0))
 
-      now_counted : Counted n m sources targets left order count done (suc (next - 1))
-      now_counted = rw one_more at T.counted
+      now_counted : Counted n m sources targets left order count done (suc i)
+      now_counted = rw more at T.counted
 
-      module _ {g : ℕ} (to : g ≡ get_or targets (next - 1) 0) where
+      module _ {g : ℕ} (to : g ≡ get_or targets i 0) where
         pub turn_needs : (g < n) × (0 < get_or left g 0) × (count < n)
         turn_needs = can_pass K.lent now_counted T.few turn_wire at_wire.1 g to
 
         pub turn_goes_on : n ≤ length left → n ≤ length order → {left⁺ : List ℕ} → left⁺ ≡ set left g (get_or left g 0 - 1)
             → {order⁺ : List ℕ} {count⁺ : ℕ} → Visit g left⁺ order count order⁺ count⁺
-            → {further : ℕ} → further ≡ get_or links (next - 1) 0
+            → {further : ℕ} → further ≡ get_or links i 0
             → Turn n m sources targets order₀ left⁺ order⁺ count⁺ done further
         turn_goes_on long fits {left⁺} e {order⁺} {count⁺} visit {further} l =
             let W : Visit g (set left g (get_or left g 0 - 1)) order count order⁺ count⁺ = rw e at visit in
@@ -74,11 +71,11 @@ module _ {n m : ℕ} {sources targets heads links : List ℕ} (K : Linked n m so
             let K⁺ = visit_keeps turn_needs.2 W in
             let few : done < count⁺ = let f = T.few in omega (arith, K⁺.0) in
             let wire = turn_wire in
-            let same : get_or sources (next - 1) 0 ≡ get_or order⁺ done 0 = at_wire.1 ∙ sym (K⁺.1 done T.few) in
-            let is : further ≡ last_before sources (next - 1) (get_or order⁺ done 0) = l ∙ K.chained.link (next - 1) turn_wire ∙ ap (last_before sources (next - 1)) same in
+            let same : get_or sources i 0 ≡ get_or order⁺ done 0 = at_wire.1 ∙ sym (K⁺.1 done T.few) in
+            let is : further ≡ last_before sources i (get_or order⁺ done 0) = l ∙ K.chained.link i turn_wire ∙ ap (last_before sources i) same in
             record {
               few = few;
-              last = next - 1;
+              last = i;
               last_in = omega arith;
               next_is = is;
               counted = rw (e, is) (counted_chain K.lent C few (omega arith));

@@ -1,7 +1,7 @@
 // The wires at each gate, as chains through the wires: so that one pass over all gates looks at each wire once.
-ghost use Rattle.std.specs.Prelude.{ℕ, ◌≤◌, ◌<◌, length, get_or};
+ghost use Rattle.std.specs.Prelude.{◌≡◌, ℕ, ◌≤◌, ◌<◌, length, get_or};
 ghost use Rattle.model.specs.Limits.{max_gates, max_wires};
-ghost use Rattle.ordering.specs.Chain.{Chainable, Chained};
+ghost use Rattle.ordering.specs.Chain.{Chainable, Chained, link_to};
 
 use model::limits::{MAX_GATES, MAX_WIRES};
 
@@ -24,6 +24,29 @@ impl Chains {
         chain_wires(m, ends, &mut heads, &mut links);
         Chains { heads, links }
     }
+
+    // The wire at which the chain of gate g starts: the last one there.
+    pub fn first(&self, g: usize) -> Option<usize>
+        requires { g < max_gates }
+        ensures { link_to result ≡ get_or self.now.heads g 0 }
+    {
+        wire_at(self.heads[g])
+    }
+
+    // The wire that follows wire i in its chain.
+    pub fn next(&self, i: usize) -> Option<usize>
+        requires { i < max_wires }
+        ensures { link_to result ≡ get_or self.now.links i 0 }
+    {
+        wire_at(self.links[i])
+    }
+}
+
+// The wire that an element of the chains names.
+fn wire_at(link: u32) -> Option<usize>
+    ensures { link_to result ≡ link }
+{
+    (link as usize).checked_sub(1)
 }
 
 // Links the first m wires by the gates `ends` at one of their ends.

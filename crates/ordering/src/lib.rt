@@ -89,10 +89,10 @@ fn pass_gate(
 {
     let mut count = placed;
     // A `while`, not a `for`: each wire of the chain names the next.
-    let mut next = at(&chains.heads, at(order, done));
-    while 0 < next {
-        count = pass_wire(at(wires.targets, next - 1), left, order, count);
-        next = at(&chains.links, next - 1);
+    let mut next = chains.first(at(order, done));
+    while let Some(i) = next {
+        count = pass_wire(at(wires.targets, i), left, order, count);
+        next = chains.next(i);
     }
     count
 }

@@ -44,14 +44,12 @@ impl Slots {
         requires { a < max_gates }
         ensures { Found (Leads self.now.live wires.now.sources.now self.now.to a b) wires.now.count result }
     {
-        // A `while`, not a `for`: each wire of the chain names the next.
-        let mut next = wires.heads[a as usize] as usize;
-        while 0 < next {
-            let i = next - 1;
+        let mut next = wires.chains.first(a as usize);
+        while let Some(i) = next {
             if self.leads(wires, i, a, b) {
                 return Some(i);
             }
-            next = wires.links[i] as usize;
+            next = wires.chains.next(i);
         }
         None
     }

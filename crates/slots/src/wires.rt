@@ -3,7 +3,6 @@ ghost use Rattle.std.specs.Prelude.{◌≡◌, ℕ, ◌≤◌, ◌<◌, length, 
 ghost use Rattle.model.specs.Limits.{max_gates, max_wires};
 ghost use Rattle.ordering.specs.Chain.{Chained};
 
-use model::limits::{MAX_GATES, MAX_WIRES};
 use ordering::chain::Chains;
 
 // `count` wires of a block of `gates` gates, with the chains of those that leave a gate.
@@ -12,13 +11,12 @@ pub struct Wires<'a> {
     pub gates: usize,
     pub count: usize,
     pub sources: &'a [u32],
-    pub heads: [u32; MAX_GATES],
-    pub links: [u32; MAX_WIRES],
+    pub chains: Chains,
     pub ghost few_gates: { gates ≤ max_gates },
     pub ghost few_wires: { count ≤ max_wires },
     pub ghost all_sources: { count ≤ length sources.now },
     pub ghost sources_below: { (i : ℕ) → i < count → get_or sources.now i 0 < gates },
-    pub ghost chained: { Chained sources.now count heads links },
+    pub ghost chained: { Chained sources.now count chains.heads chains.links },
 }
 
 impl<'a> Wires<'a> {
@@ -27,13 +25,12 @@ impl<'a> Wires<'a> {
         requires sources_below { (i : ℕ) → i < count → get_or sources.now i 0 < gates }
         ensures same { (result.gates ≡ gates) × (result.count ≡ count) × (result.sources ≡ sources.entry) }
     {
-        let Chains { heads, links } = Chains::of(count, sources);
+        let chains = Chains::of(count, sources);
         Wires {
             gates,
             count,
             sources,
-            heads,
-            links,
+            chains,
         }
     }
 }

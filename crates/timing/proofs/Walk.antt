@@ -2,7 +2,7 @@
 -- Assumes nothing.
 use mathlib.Core.Path.{◌≡◌, sym, ◌∙◌, ap}
 use mathlib.Core.List.{List}
-use Prim.Native.Nat.{ℕ, suc, ◌+◌, ◌-◌, ◌≤◌, ◌<◌, max}
+use Prim.Native.Nat.{ℕ, suc, ◌+◌, ◌≤◌, ◌<◌, max}
 use native.Mathlib.Nat.{le_refl}
 use native.Mathlib.Omega.{arith}
 use lib.ListN.{get_or}
@@ -41,26 +41,23 @@ module _ (sources targets delays times : List ℕ) (base g m : ℕ) where
       }
 
   -- the next wire is among the m, and leads to the gate
-  pub walk_at : (latest next : ℕ) → Walk latest next → 0 < next → (next - 1 < m) × (get_or targets (next - 1) 0 ≡ g)
-  walk_at latest next w h =
-      let one : last_before targets w.left g ≡ suc (next - 1) = sym w.next_is ∙ omega arith in
-      let r = last_leads_there targets w.left g (next - 1) one in
+  pub walk_at : (latest next i : ℕ) → Walk latest next → next ≡ suc i → (i < m) × (get_or targets i 0 ≡ g)
+  walk_at latest next i w h =
+      let r = last_leads_there targets w.left g i (sym w.next_is ∙ h) in
       (omega (arith, r.0, w.left_in), r.1)
 
-  pub walk_goes_on : (heads links : List ℕ) (latest next later further : ℕ)
+  pub walk_goes_on : (heads links : List ℕ) (latest next i later further : ℕ)
       → Chained targets m heads links
       → Walk latest next
-      → 0 < next
-      → later ≡ max latest (get_or times (get_or sources (next - 1) 0) 0 + get_or delays (next - 1) 0)
-      → further ≡ get_or links (next - 1) 0
+      → next ≡ suc i
+      → later ≡ max latest (get_or times (get_or sources i 0) 0 + get_or delays i 0)
+      → further ≡ get_or links i 0
       → Walk later further
-  walk_goes_on heads links latest next later further chained w h e l =
-      let at = walk_at latest next w h in
-      let i = next - 1 in
+  walk_goes_on heads links latest next i later further chained w h e l =
+      let at = walk_at latest next i w h in
       let is : further ≡ last_before targets i g = l ∙ chained.link i at.0 ∙ ap (last_before targets i) at.1 in
       let linked = over_linked sources targets delays (λ (a : ℕ). get_or times a 0) base g i at.1 in
-      let suc_i : suc i ≡ next = omega arith in
-      let linked_next : first_wires next ≡ max (get_or times (get_or sources i 0) 0 + get_or delays i 0) (first_wires i) = rw suc_i at linked in
+      let linked_next : first_wires next ≡ max (get_or times (get_or sources i 0) 0 + get_or delays i 0) (first_wires i) = rw h linked in
       let rest : first_wires i ≡ first_wires further = rw is (over_last sources targets delays (λ (a : ℕ). get_or times a 0) base g i) in
       record {
         left = i;
@@ -72,15 +69,15 @@ module _ (sources targets delays times : List ℕ) (base g m : ℕ) where
       }
 
   -- each wire of the chain stands before the one that names it
-  pub walk_falls : (heads links : List ℕ) (latest next further : ℕ)
+  pub walk_falls : (heads links : List ℕ) (latest next i further : ℕ)
       → Chained targets m heads links
       → Walk latest next
-      → 0 < next
-      → further ≡ get_or links (next - 1) 0
+      → next ≡ suc i
+      → further ≡ get_or links i 0
       → further < next
-  walk_falls heads links latest next further chained w h l =
-      let at = walk_at latest next w h in
-      omega (arith, chained.link (next - 1) at.0, last_at_most targets (next - 1) (get_or targets (next - 1) 0))
+  walk_falls heads links latest next i further chained w h l =
+      let at = walk_at latest next i w h in
+      omega (arith, chained.link i at.0, last_at_most targets i (get_or targets i 0))
 
   pub walk_ends : (latest next : ℕ) → Walk latest next → next ≡ 0 → latest ≡ first_wires m
   walk_ends latest next w e =

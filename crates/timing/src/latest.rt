@@ -14,13 +14,12 @@ fn latest_into(g: usize, n: usize, wires: Wires, chains: &Chains, times: &[u32],
     ensures { result ≡ latest_in (wires_in wires.entry.count wires.entry.sources.now wires.entry.targets.now wires.entry.delays.now) (λ (a : ℕ). get_or times.now a 0) base g }
 {
     let mut latest = base;
-    let mut next = chains.heads[g] as usize;
+    let mut next = chains.first(g);
     // A `while`: each wire's link names the next wire of the chain, so no range or slice has them in this order.
-    while 0 < next {
-        let i = next - 1;
+    while let Some(i) = next {
         let a = wires.sources[i] as usize;
         latest = latest.max(times[a] + wires.delays[i]);
-        next = chains.links[i] as usize;
+        next = chains.next(i);
     }
     latest
 }

@@ -1,19 +1,20 @@
 -- `slots::Slots::in_chain` meets its contract: a walk along the chain of the slots that leave a. The next slot's number falls. Assumes nothing.
-use mathlib.Core.Path.{refl}
+use mathlib.Core.Path.{ap}
 use native.Mathlib.Omega.{arith}
+use Rattle.ordering.specs.Chain.{link_to}
 use Rattle.ordering.proofs.Walking.{walking_starts, walking_on, walking_shortens}
 use Rattle.slots.proofs.ChainLaws.{none_found}
 use Rattle.slots.proofs.Slots.in_chain.Goals as goal
 
 pub loop-next-init : goal.loop-next-init
-loop-next-init c = walking_starts _ _ _ _ _ _ c.args.wires.now.chained _ refl
+loop-next-init c = walking_starts _ _ _ _ _ _ c.args.wires.now.chained _ c.first-next.ensures
 
 pub loop-next-smaller : goal.loop-next-smaller
-loop-next-smaller c = walking_shortens _ _ _ _ _ _ c.args.wires.now.chained _ _ _ c.loop-next.invariant (omega (arith, c.loop-next-test.true)) refl
+loop-next-smaller c = walking_shortens _ _ _ _ _ _ c.args.wires.now.chained _ _ _ c.loop-next.invariant (ap link_to c.in-Some.is) c.next-next.ensures
 
 pub loop-next-preserved : goal.loop-next-preserved
 loop-next-preserved c =
-    walking_on _ _ _ _ _ _ c.args.wires.now.chained _ _ _ c.loop-next.invariant (omega (arith, c.loop-next-test.true)) refl (rw c.if-leads.false at c.leads.ensures)
+    walking_on _ _ _ _ _ _ c.args.wires.now.chained _ _ _ c.loop-next.invariant (ap link_to c.in-Some.is) c.next-next.ensures (rw c.if-leads.false at c.leads.ensures)
 
 pub returns : goal.returns
-returns c = none_found c.loop-next.invariant (omega (arith, c.loop-next-test.false))
+returns c = let e = ap link_to c.in_default.is in none_found c.loop-next.invariant (omega (arith, e))
