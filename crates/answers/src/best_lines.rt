@@ -19,14 +19,7 @@ pub fn best_held(block: &HeldBlock, increases: &mut [u32]) -> Result<BestFound, 
 {
     let n = block.gates;
     let mut tree = Tree::EMPTY;
-    let planted = plant_block(
-        n,
-        block.wires,
-        &block.sources,
-        &block.targets,
-        &block.wire_delays,
-        &mut tree,
-    );
+    let planted = plant_block(n, block.wires(), &mut tree);
     if let Err(NotSeriesParallel { gate }) = planted {
         return Err(Refusal::NotSeriesParallel { gate });
     }

@@ -26,14 +26,7 @@ pub fn curve_held(
 {
     let n = block.gates;
     let mut tree = Tree::EMPTY;
-    let planted = plant_block(
-        n,
-        block.wires,
-        &block.sources,
-        &block.targets,
-        &block.wire_delays,
-        &mut tree,
-    );
+    let planted = plant_block(n, block.wires(), &mut tree);
     if let Err(NotSeriesParallel { gate }) = planted {
         return Err(Refusal::NotSeriesParallel { gate });
     }
