@@ -7,7 +7,7 @@ use holding::{input_activities_of, start_of};
 use loading::block::HeldBlock;
 use model::{BestFound, Refusal};
 use planting::tree::Tree;
-use shaping::plant::{NotSeriesParallel, plant_block};
+use shaping::plant::plant_block;
 use spending::tree::tree_increases;
 
 // The best increases of the block, to the front of the slice.
@@ -19,17 +19,7 @@ pub fn best_held(block: &HeldBlock, increases: &mut [u32]) -> Result<BestFound, 
 {
     let n = block.gates;
     let mut tree = Tree::EMPTY;
-    let planted = plant_block(
-        n,
-        block.wires,
-        &block.sources,
-        &block.targets,
-        &block.wire_delays,
-        &mut tree,
-    );
-    if let Err(NotSeriesParallel { gate }) = planted {
-        return Err(Refusal::NotSeriesParallel { gate });
-    }
+    plant_block(n, block.wires(), &mut tree)?;
     let start = start_of(block);
     let arrival = block.arrival;
     let deadline = block.deadline;

@@ -9,7 +9,7 @@ use loading::block::HeldBlock;
 use model::limits::MAX_GATES;
 use model::{CurveFound, Refusal};
 use planting::tree::Tree;
-use shaping::plant::{NotSeriesParallel, plant_block};
+use shaping::plant::plant_block;
 use spending::tree::tree_curve;
 
 // The curve of the block, whatever its arrival and deadline: its pairs to the front of the two slices.
@@ -26,17 +26,7 @@ pub fn curve_held(
 {
     let n = block.gates;
     let mut tree = Tree::EMPTY;
-    let planted = plant_block(
-        n,
-        block.wires,
-        &block.sources,
-        &block.targets,
-        &block.wire_delays,
-        &mut tree,
-    );
-    if let Err(NotSeriesParallel { gate }) = planted {
-        return Err(Refusal::NotSeriesParallel { gate });
-    }
+    plant_block(n, block.wires(), &mut tree)?;
     let start = start_of(block);
     let inputs = input_activities_of(block);
     let mut increases = [0u32; MAX_GATES];

@@ -17,7 +17,7 @@ use Rattle.tallies.proofs.TallyLaws.{end_gates_few}
 use Rattle.model.specs.Limits.{max_gates}
 use Rattle.tallies.specs.Tallies.{TalliedBy}
 use Rattle.tallies.specs.Queue.{LinedUp}
-use Rattle.slots.specs.declared.wires.Wires.{Wires}
+use Rattle.slots.specs.declared.wires.ChainedWires.{ChainedWires}
 use Rattle.reduction.specs.declared.Reduction.{Reduction}
 use Rattle.reduction.specs.Arrays.{Arrays, held, Room}
 use Rattle.reduction.specs.Going.{Going, Ready, Queued}
@@ -86,7 +86,7 @@ module _ {N : Block} {n k : ℕ} {froms tos delays : List ℕ} (net : Network N)
 
 -- The beginning is a moment between two turns.
 pub laid_moment :
-    {w : Wires} {R : Reduction} {targets delays : List ℕ}
+    {w : ChainedWires} {R : Reduction} {targets delays : List ℕ}
     → Given w.gates w.count w.sources.now targets delays
     → Laid w.count targets delays R.slots.live R.slots.to R.slots.top R.nodes.kind R.nodes.gate
     → Room w.count (w.count + (w.gates + w.gates)) (state w R)

@@ -6,11 +6,11 @@ ghost use Rattle.reduction.specs.Wired.{Given, Laid};
 ghost use Rattle.reduction.specs.State.{Moment};
 
 use crate::Reduction;
-use slots::wires::Wires;
+use slots::wires::ChainedWires;
 
 impl Reduction {
     // The wires lead to `targets`, with their delays.
-    pub(crate) fn begin(&mut self, wires: &Wires, targets: &[u32], delays: &[u32])
+    pub(crate) fn begin(&mut self, wires: &ChainedWires, targets: &[u32], delays: &[u32])
         requires given { Given wires.now.gates wires.now.count wires.now.sources.now targets.now delays.now }
         requires wires_long { (wires.now.count ≤ length targets.now) × (wires.now.count ≤ length delays.now) }
         ensures laid { Laid wires.now.count targets.now delays.now self.new.slots.live self.new.slots.to self.new.slots.top self.new.nodes.kind self.new.nodes.gate }

@@ -12,8 +12,9 @@ ghost use Rattle.parts.specs.Network.{Network};
 ghost use Rattle.reduction.specs.Wired.{Wired, Given};
 ghost use Rattle.reduction.specs.Answered.{Answered};
 
+use ordering::wires::Wires;
 use slots::nodes::TreeNodes;
-use slots::wires::Wires;
+use slots::wires::ChainedWires;
 use slots::{NotSeriesParallel, Slots};
 use tallies::queue::Queue;
 use tallies::tally::Tallies;
@@ -37,27 +38,24 @@ impl Reduction {
     };
 }
 
-// Reduces a network of n gates and m wires, given by their ends and delays, to its tree: answers the root among the nodes. One gate without a wire has none.
+// Reduces a network of n gates to its tree: answers the root among the nodes. One gate without a wire has none.
 // Public for the crates above only: they have shown that the wires are those of a network.
 pub fn reduce_network(
     n: usize,
-    m: usize,
-    sources: &[u32],
-    targets: &[u32],
-    delays: &[u32],
+    wires: Wires,
     reduction: &mut Reduction,
 ) -> Result<Option<usize>, NotSeriesParallel>
-    requires given { Given n m sources.now targets.now delays.now }
-    requires wires_long { (m ≤ length sources.now) × (m ≤ length targets.now) × (m ≤ length delays.now) }
-    requires few { (n ≤ max_gates) × (m ≤ max_wires) }
-    ensures answered { (N : Block) → Network N → Wired N n m sources.now targets.now delays.now → Answered N reduction.new.nodes result }
+    requires given { Given n wires.count wires.sources.now wires.targets.now wires.delays.now }
+    requires wires_long { (wires.count ≤ length wires.sources.now) × (wires.count ≤ length wires.targets.now) × (wires.count ≤ length wires.delays.now) }
+    requires few { (n ≤ max_gates) × (wires.count ≤ max_wires) }
+    ensures answered { (N : Block) → Network N → Wired N n wires.entry.count wires.entry.sources.now wires.entry.targets.now wires.entry.delays.now → Answered N reduction.new.nodes result }
     ensures nodes_long { n ≢ 1 → length reduction.new.nodes.kind ≡ max_wires + (max_gates + max_gates) }
 {
     if n == 1 {
         return Ok(None);
     }
-    let wires = Wires::new(n, m, sources);
-    reduction.begin(&wires, targets, delays);
-    reduction.reduce(&wires);
-    reduction.slots.pick(m, n - 1).map(Some)
+    let chained = ChainedWires::new(n, wires.count, wires.sources);
+    reduction.begin(&chained, wires.targets, wires.delays);
+    reduction.reduce(&chained);
+    reduction.slots.pick(wires.count, n - 1).map(Some)
 }

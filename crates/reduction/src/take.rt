@@ -5,7 +5,7 @@ ghost use Rattle.reduction.specs.Arrays.{Chosen, Went};
 ghost use Rattle.reduction.specs.State.{state};
 
 use crate::Reduction;
-use slots::wires::Wires;
+use slots::wires::ChainedWires;
 
 // The kinds of nodes that are added.
 const SERIES: u32 = 1;
@@ -14,7 +14,7 @@ const PARALLEL: u32 = 2;
 
 impl Reduction {
     // Gate m goes, with its one slot in, i, and its one slot out, j.
-    pub(crate) fn take(&mut self, wires: &Wires, m: usize, i: usize, j: usize)
+    pub(crate) fn take(&mut self, wires: &ChainedWires, m: usize, i: usize, j: usize)
         requires room { self.old.nodes.count + 2 ≤ max_wires + (max_gates + max_gates) }
         requires m_below { m < max_gates }
         requires chosen { Chosen wires.now.count (state wires.now self.old) m i j }

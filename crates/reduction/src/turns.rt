@@ -7,12 +7,12 @@ ghost use Rattle.reduction.specs.State.{state, Moment};
 
 use crate::Reduction;
 use model::limits::MAX_WIRES;
-use slots::wires::Wires;
+use slots::wires::ChainedWires;
 use tallies::tally::{kept_share, only_slot, settle};
 
 impl Reduction {
     // Gate m goes, with its slots i and j; the tallies follow, and its neighbours join the queue.
-    fn remove(&mut self, wires: &Wires, m: usize, i: usize, j: usize)
+    fn remove(&mut self, wires: &ChainedWires, m: usize, i: usize, j: usize)
         requires moment { Moment wires.now self.old }
         requires chosen { Chosen wires.now.count (state wires.now self.old) m i j }
         ensures removed { Removed wires.now.count self.old.nodes.count m i j (get_or wires.now.sources.now i 0) (get_or self.old.slots.to j 0) (state wires.now self.old) (state wires.now self.new) self.old.tallies.ins self.old.tallies.outs self.new.tallies.ins self.new.tallies.outs self.new.nodes.count }
@@ -31,7 +31,7 @@ impl Reduction {
     }
 
     // The gate at the queue's head goes, if it can from its place; its neighbours join the queue at the tail, to have their turn after the others.
-    fn visit(&mut self, wires: &Wires)
+    fn visit(&mut self, wires: &ChainedWires)
         requires moment { Moment wires.now self.old }
         requires waiting { self.old.queue.head < self.old.queue.tail }
         ensures visited { Visited wires.now.gates wires.now.count 0 (wires.now.gates - 1) self.old.nodes.count self.old.queue.head self.old.queue.tail (state wires.now self.old) (state wires.now self.new) self.new.tallies.ins self.new.tallies.outs self.new.queue.gates self.new.queue.places self.new.nodes.count }
@@ -46,7 +46,7 @@ impl Reduction {
     }
 
     // Gates go until none but the first and the last can.
-    pub(crate) fn reduce(&mut self, wires: &Wires)
+    pub(crate) fn reduce(&mut self, wires: &ChainedWires)
         requires moment { Moment wires.now self.old }
         requires leaves { self.old.nodes.count ≡ wires.now.count }
         ensures { Ended wires.now.gates wires.now.count 0 (wires.now.gates - 1) (state wires.now self.old) (state wires.now self.new) self.new.nodes.count }

@@ -5,6 +5,7 @@
 pub mod finish;
 pub mod merge;
 pub mod nodes;
+pub mod refusal;
 pub mod wires;
 
 use model::limits::{MAX_GATES, MAX_WIRES};

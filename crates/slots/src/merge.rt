@@ -5,7 +5,7 @@ ghost use Rattle.model.specs.Limits.{max_gates, max_wires};
 ghost use Rattle.slots.specs.Sought.{Found, Leads};
 
 use crate::Slots;
-use crate::wires::Wires;
+use crate::wires::ChainedWires;
 use model::limits::{MAX_GATES, MAX_WIRES};
 
 impl Slots {
@@ -32,7 +32,7 @@ impl Slots {
     }
 
     // Whether slot i is live and leads from a to b.
-    fn leads(&self, wires: &Wires, i: usize, a: u32, b: u32) -> bool
+    fn leads(&self, wires: &ChainedWires, i: usize, a: u32, b: u32) -> bool
         requires { i < wires.now.count }
         ensures { Says (Leads self.now.live wires.now.sources.now self.now.to a b i) result }
     {
@@ -40,7 +40,7 @@ impl Slots {
     }
 
     // The slot that leads from a to b, looked for in the chain of the slots that leave a.
-    fn in_chain(&self, wires: &Wires, a: u32, b: u32) -> Option<usize>
+    fn in_chain(&self, wires: &ChainedWires, a: u32, b: u32) -> Option<usize>
         requires { a < max_gates }
         ensures { Found (Leads self.now.live wires.now.sources.now self.now.to a b) wires.now.count result }
     {
@@ -55,7 +55,7 @@ impl Slots {
     }
 
     // The slot that leads from a to b. The slot remembered for a is tried first; whatever it is, the answer is the same.
-    pub fn between(&self, wires: &Wires, a: u32, b: u32) -> Option<usize>
+    pub fn between(&self, wires: &ChainedWires, a: u32, b: u32) -> Option<usize>
         requires { a < max_gates }
         ensures { Found (Leads self.now.live wires.now.sources.now self.now.to a b) wires.now.count result }
     {

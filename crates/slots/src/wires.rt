@@ -7,7 +7,7 @@ use ordering::chain::Chains;
 
 // `count` wires of a block of `gates` gates, with the chains of those that leave a gate.
 #[derive(Drop)]
-pub struct Wires<'a> {
+pub struct ChainedWires<'a> {
     pub gates: usize,
     pub count: usize,
     pub sources: &'a [u32],
@@ -19,14 +19,14 @@ pub struct Wires<'a> {
     pub ghost chained: { Chained sources.now count chains.heads chains.links },
 }
 
-impl<'a> Wires<'a> {
-    pub fn new(gates: usize, count: usize, sources: &'a [u32]) -> Wires<'a>
+impl<'a> ChainedWires<'a> {
+    pub fn new(gates: usize, count: usize, sources: &'a [u32]) -> ChainedWires<'a>
         requires few { (gates ≤ max_gates) × (count ≤ max_wires) × (count ≤ length sources.now) }
         requires sources_below { (i : ℕ) → i < count → get_or sources.now i 0 < gates }
         ensures same { (result.gates ≡ gates) × (result.count ≡ count) × (result.sources ≡ sources.entry) }
     {
         let chains = Chains::of(count, sources);
-        Wires {
+        ChainedWires {
             gates,
             count,
             sources,

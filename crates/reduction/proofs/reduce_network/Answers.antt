@@ -10,17 +10,17 @@ use Rattle.reduction.proofs.reduce_network.Goals as goal
 pub returns-then-n-eq1 : goal.returns-then-n-eq1
 returns-then-n-eq1 c = record { answered = λ N net w. lone_answered net w c.if-n-eq1.true; nodes_long = λ d. absurd (d c.if-n-eq1.true) }
 
-pub new-wires-requires-clause-sources_below : goal.new-wires-requires-clause-sources_below
-new-wires-requires-clause-sources_below c = source_below c.requires.given.network c.requires.given.wired
+pub new-chained-requires-clause-sources_below : goal.new-chained-requires-clause-sources_below
+new-chained-requires-clause-sources_below c = source_below c.requires.given.network c.requires.given.wired
 
 pub returns : goal.returns
 returns c = record {
   nodes_long = λ d. c.reduce.ensures.kinds_kept ∙ c.begin.ensures.room;
   answered =
       λ N net w.
-      let (gates, count, sources) = c.new-wires.ensures.same in
-      let as_wires : Wired N c.new-wires.result.gates c.new-wires.result.count c.new-wires.result.sources.now c.args.targets.now c.args.delays.now = rw (gates, count, sources) w in
-      let picked : Picked c.reduce.new.self.slots.live c.reduce.new.self.slots.to c.reduce.new.self.slots.top c.new-wires.result.count (c.new-wires.result.gates - 1) c.pick.result =
+      let (gates, count, sources) = c.new-chained.ensures.same in
+      let as_wires : Wired N c.new-chained.result.gates c.new-chained.result.count c.new-chained.result.sources.now c.args.wires.targets.now c.args.wires.delays.now = rw (gates, count, sources) w in
+      let picked : Picked c.reduce.new.self.slots.live c.reduce.new.self.slots.to c.reduce.new.self.slots.top c.new-chained.result.count (c.new-chained.result.gates - 1) c.pick.result =
       rw (gates, count) c.pick.ensures in
       picked_answered net (laid_going net as_wires _ refl c.begin.ensures.laid) c.reduce.ensures refl (rw gates c.if-n-eq1.false) c.pick.result picked c.map.result c.map.ensures.cases;
 }

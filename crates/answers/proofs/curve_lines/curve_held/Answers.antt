@@ -1,4 +1,5 @@
 -- `answers::curve_lines::curve_held` meets its contract: the tree is planted, start is measured, and the runs from the raised start on are noted. Assumes nothing.
+use Rattle.std.proofs.lemmas.Result.{err_from_is_err_and}
 use Rattle.model.specs.Answer.{fits}
 use mathlib.Core.Path.{refl, sym}
 use native.Mathlib.Omega.{arith}
@@ -9,11 +10,16 @@ use Rattle.answers.proofs.PlantedLaws.{tree_held}
 use Rattle.answers.proofs.Lines.{curve_line, curve_bounds}
 use Rattle.answers.proofs.curve_lines.curve_held.Goals as goal
 
-pub plant_block-planted-requires : goal.plant_block-planted-requires
-plant_block-planted-requires c = record { given = (block c.requires.held.3, given c.requires.held.3); wires_long = wires_long c.requires.held.3; nodes_long = omega arith }
+pub plant_block-requires : goal.plant_block-requires
+plant_block-requires c =
+    let w = c.wires.ensures in
+    record { given = (block c.requires.held.3, rw (w.count, w.sources, w.targets, w.delays) (given c.requires.held.3)); wires_long = rw (w.count, w.sources, w.targets, w.delays) (wires_long c.requires.held.3); nodes_long = omega arith }
 
-pub returns-in-Err : goal.returns-in-Err
-returns-in-Err c = record { lines = (λ file arrival deadline h. fits _ (rw c.in-Err.is at (c.plant_block-planted.ensures.planted (block h) (given h))).0 refl); curve_bounds = tt }
+pub returns-in_err-plant_block : goal.returns-in_err-plant_block
+returns-in_err-plant_block c =
+    let w = c.wires.ensures in
+    let p = err_from_is_err_and c.from_residual.result c.from_residual.ensures.1 in
+    rw (p.1, p.2) (record { lines = λ file arrival deadline h. fits _ (c.in_err-plant_block.ensures.planted (block h) (rw (w.count, w.sources, w.targets, w.delays) (given h))).0 refl; curve_bounds = tt })
 
 pub overflow_cast-n : goal.overflow_cast-n
 overflow_cast-n c = omega (arith, (the_lent c.requires.held.3).gates)
@@ -28,7 +34,9 @@ pub slice_bounds-tree_curve-end-2 : goal.slice_bounds-tree_curve-end-2
 slice_bounds-tree_curve-end-2 c = sym (length-take-le _ _ (omega (arith, (the_lent c.requires.held.3).gates)))
 
 pub tree_curve-curve-requires : goal.tree_curve-curve-requires
-tree_curve-curve-requires c = record { tree_held = (block c.requires.held.3, (tree_held c.requires.held.3 (rw c.in_default.is at (c.plant_block-planted.ensures.planted (block c.requires.held.3) (given c.requires.held.3))) _ c.input_activities_of-inputs.ensures.long c.input_activities_of-inputs.ensures.activities (c.start_of-start.ensures.start _ _) c.start_of-start.ensures.small)); increases_len = length-take-le _ _ (omega (arith, (the_lent c.requires.held.3).gates)); max_pairs_in_bounds = c.requires.room }
+tree_curve-curve-requires c =
+    let w = c.wires.ensures in
+    record { tree_held = (block c.requires.held.3, (tree_held c.requires.held.3 (c.in_ok-plant_block.ensures.planted (block c.requires.held.3) (rw (w.count, w.sources, w.targets, w.delays) (given c.requires.held.3))) _ c.input_activities_of-inputs.ensures.long c.input_activities_of-inputs.ensures.activities (c.start_of-start.ensures.start _ _) c.start_of-start.ensures.small)); increases_len = length-take-le _ _ (omega (arith, (the_lent c.requires.held.3).gates)); max_pairs_in_bounds = c.requires.room }
 
 pub shape_of-widths : goal.shape_of-widths
 shape_of-widths c = c.tree_curve-curve.auto.pair_widths
@@ -37,7 +45,17 @@ pub shape_of-gains : goal.shape_of-gains
 shape_of-gains c = c.tree_curve-curve.auto.pair_gains
 
 pub returns : goal.returns
-returns c = record { lines = (λ file arrival deadline h. curve_line h (tree_held h (rw c.in_default.is at (c.plant_block-planted.ensures.planted (block h) (given h))) _ c.input_activities_of-inputs.ensures.long c.input_activities_of-inputs.ensures.activities (c.start_of-start.ensures.start _ _) c.start_of-start.ensures.small).fits (c.tree_curve-curve.ensures (block h) (tree_held h (rw c.in_default.is at (c.plant_block-planted.ensures.planted (block h) (given h))) _ c.input_activities_of-inputs.ensures.long c.input_activities_of-inputs.ensures.activities (c.start_of-start.ensures.start _ _) c.start_of-start.ensures.small)) (c.start_of-start.ensures.start _ _)); curve_bounds = curve_bounds (tree_held c.requires.held.3 (rw c.in_default.is at (c.plant_block-planted.ensures.planted (block c.requires.held.3) (given c.requires.held.3))) _ c.input_activities_of-inputs.ensures.long c.input_activities_of-inputs.ensures.activities (c.start_of-start.ensures.start _ _) c.start_of-start.ensures.small) (c.tree_curve-curve.ensures (block c.requires.held.3) (tree_held c.requires.held.3 (rw c.in_default.is at (c.plant_block-planted.ensures.planted (block c.requires.held.3) (given c.requires.held.3))) _ c.input_activities_of-inputs.ensures.long c.input_activities_of-inputs.ensures.activities (c.start_of-start.ensures.start _ _) c.start_of-start.ensures.small)) }
+returns c =
+    let w = c.wires.ensures in
+    record {
+      lines =
+          λ file arrival deadline h.
+          let t = tree_held h (c.in_ok-plant_block.ensures.planted (block h) (rw (w.count, w.sources, w.targets, w.delays) (given h))) _ c.input_activities_of-inputs.ensures.long c.input_activities_of-inputs.ensures.activities (c.start_of-start.ensures.start _ _) c.start_of-start.ensures.small in
+          curve_line h t.fits (c.tree_curve-curve.ensures (block h) t) (c.start_of-start.ensures.start _ _);
+      curve_bounds =
+          let t = tree_held c.requires.held.3 (c.in_ok-plant_block.ensures.planted (block c.requires.held.3) (rw (w.count, w.sources, w.targets, w.delays) (given c.requires.held.3))) _ c.input_activities_of-inputs.ensures.long c.input_activities_of-inputs.ensures.activities (c.start_of-start.ensures.start _ _) c.start_of-start.ensures.small in
+          curve_bounds t (c.tree_curve-curve.ensures (block c.requires.held.3) t);
+    }
 
 pub shared_ref_as_front-tree_curve : goal.shared_ref_as_front-tree_curve
 shared_ref_as_front-tree_curve c = (the_lent c.requires.held.3).gates
