@@ -1,4 +1,4 @@
--- Once the tree of a held file's block is planted and its input activities are found, the block with its tree is in arrays and words (`tree_held`).
+-- Once the tree of a held file's block is planted and its input activities are found, the block is in arrays and its tree planted (`tree_held`).
 -- Assumes nothing.
 use mathlib.Core.Path.{◌≡◌, sym, ◌∙◌, ap, subst}
 use mathlib.Core.List.{List}

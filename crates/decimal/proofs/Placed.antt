@@ -5,9 +5,10 @@ use mathlib.Core.Path.{◌≡◌, refl, sym, ◌∙◌, ap}
 use mathlib.Core.Logic.{◌↔◌, ⊎_elim}
 use mathlib.Core.List.{List, ◌++◌, append_assoc}
 use Prim.Native.Nat.{ℕ, ◌+◌, ◌<◌, ◌≤◌}
+use native.Mathlib.Numerals.{add-one}
 use native.Mathlib.Omega.{arith}
-use lib.ListN.{length, take, drop, length-append}
-use lib.Seq.{drop-drop, drop_at, take-length, length-take-le, slice, paste, length-paste, take-paste, drop-paste}
+use lib.ListN.{length, get_or, set, take, drop, length-append}
+use lib.Seq.{drop-drop, drop_at, take-length, length-take-le, slice, paste, paste-suc, length-paste, take-paste, drop-paste}
 use borrow.Author.Tests.{le-leb, lt-leb}
 use borrow.Rule.Slice.PartMut.{put_mid}
 use Rattle.std.proofs.lemmas.Slice.{put_mid-paste}
@@ -15,6 +16,11 @@ use Rattle.lists.proofs.Compare.{le_or_lt}
 use Rattle.model.specs.Printout.{digits}
 use Rattle.decimal.specs.Placed.{placed, behind}
 use Rattle.decimal.proofs.Digits.{some_digit}
+
+-- the bytes of a text before byte i pasted, and then byte i written
+pub paste_byte : (old : List ℕ) (at : ℕ) (text : List ℕ) (i : ℕ) {b : ℕ} → b ≡ get_or text i 0 → at + i < length old → i < length text
+    → set (paste old at text i) (at + i) b ≡ paste old at text (i + 1)
+paste_byte old at text i e h l = rw (e, add-one i) (paste-suc old at text i 0 h l)
 
 module _ (text : List ℕ) (at : ℕ) (old : List ℕ) where
   pub placed_fits : at + length text ≤ length old → placed text at old ≡ take at old ++ text ++ drop (at + length text) old

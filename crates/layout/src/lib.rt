@@ -11,7 +11,6 @@ ghost use Rattle.model.specs.Layout.{layout_answer, AnswersLayout, NoSavingRefus
 use laying::answer::{LayoutAnswer, refused};
 use laying::lay_best;
 use loading::block::HeldBlock;
-use loading::load;
 
 // The best increases of a block file, four bytes each, to the front of `increases`, or the first refusal of 1 to 12 that fits.
 #[unsafe(no_mangle)]
@@ -20,7 +19,7 @@ pub extern "C" fn honduvi_best_increases(file: &[u8], increases: &mut [u8]) -> L
     ensures no_saving_refused { NoSavingRefused result.number result.saving }
 {
     let mut block = HeldBlock::EMPTY;
-    match load(file, &mut block) {
+    match block.load(file) {
         Err(refusal) => refused(refusal),
         Ok(()) => lay_best(&block, increases),
     }

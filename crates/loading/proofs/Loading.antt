@@ -3,6 +3,7 @@
 use mathlib.Core.Path.{◌≡◌, refl, sym, subst}
 use mathlib.Core.List.{List}
 use Prim.Native.Nat.{ℕ}
+use native.Mathlib.Omega.{arith}
 use lib.ListN.{length}
 use Rattle.std.specs.Prelude.{Ok, Err}
 use Rattle.model.specs.declared.Refusal.{Refusal}
@@ -25,6 +26,11 @@ pub not_read : (file : List ℕ) (x : Refusal) (G : GateArrays) (W : WireArrays)
     → block_passing file (Err x) G W ≡ read_block file
     → IllFormed file (number_of x) (place_of x)
 not_read file x G W e = unread (sym e)
+
+-- the room for wires is kept
+pub room_kept : {W Y : WireArrays} → WireRoom W → length Y.sources ≡ length W.sources → length Y.targets ≡ length W.targets → length Y.delays ≡ length W.delays → WireRoom Y
+room_kept room s t d =
+    record { sources = omega (arith, room.sources); targets = omega (arith, room.targets); delays = omega (arith, room.delays) }
 
 -- an order for another relation that the wires make true
 order_for : {E F : ℕ → ℕ → Type 0} {k n : ℕ} {order : List ℕ} → k ≡ n → ((a b : ℕ) → F a b → E a b) → Order E k order → Order F n order

@@ -41,6 +41,6 @@ pub record HoldsTimes (file : List ℕ) (b : HeldBlock) : Type 0 where
 
 -- The file is well-formed and the block is its own, with an order of its gates along the wires in the first elements of `order`, as many as there are gates, whose others are as before; or the refusal is the first of 1 to 9 that fits.
 -- Free is what the gate and wire arrays hold beyond the block's gates, steps and wires, and after a refusal what the block holds.
-abbrev pub Loads : List ℕ → Result (Unit {0}) Refusal → HeldBlock → HeldBlock → Type 0
-Loads file (Ok _) before b = Holds file b × SameBeyond b.gates before.order b.order
-Loads file (Err r) before b = IllFormed file (number_of r) (place_of r)
+abbrev pub LoadsIn : List ℕ → Result (Unit {0}) Refusal → HeldBlock → HeldBlock → Type 0
+LoadsIn file (Ok _) before b = Holds file b × SameBeyond b.gates before.order b.order
+LoadsIn file (Err r) before b = IllFormed file (number_of r) (place_of r)

@@ -1,6 +1,9 @@
 // A block in arrays, with an order of its gates along the wires.
 ghost use Rattle.std.specs.Prelude.{◌≡◌};
+ghost use Rattle.loading.specs.HeldBlock.{LoadsIn};
 
+use crate::load;
+use model::Refusal;
 use model::limits::{GateNumbers, MAX_GATES, MAX_PAIRS, MAX_WIRES, StepNumbers, WireNumbers};
 use ordering::wires::Wires;
 
@@ -45,6 +48,31 @@ impl HeldBlock {
         wire_delays: [0; MAX_WIRES],
         order: [0; MAX_GATES],
     };
+
+    // Loads the block of a file, with an order of its gates along the wires, whose others are as before; or answers the first refusal of 1 to 9.
+    // What the other arrays hold beyond the block's gates, steps and wires is free, and after a refusal what the block holds. The block is filled where it stands: one that is handed back is copied.
+    pub fn load(&mut self, file: &[u8]) -> Result<(), Refusal>
+        ensures { LoadsIn file.now result self.old self.new }
+    {
+        let head = load(
+            file,
+            &mut self.delays,
+            &mut self.activities,
+            &mut self.counts,
+            &mut self.step_widths,
+            &mut self.drops,
+            &mut self.sources,
+            &mut self.targets,
+            &mut self.wire_delays,
+            &mut self.order,
+        )?;
+        self.gates = head.gates;
+        self.wires = head.wires;
+        self.arrival = head.arrival;
+        self.deadline = head.deadline;
+        self.activity = head.activity;
+        Ok(())
+    }
 
     // The wires, in the block's arrays.
     pub fn wires(&self) -> Wires<'_>

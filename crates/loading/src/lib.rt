@@ -4,46 +4,56 @@
 pub mod block;
 pub mod numbers;
 
-ghost use Rattle.loading.specs.HeldBlock.{Loads};
+ghost use Rattle.std.specs.Prelude.{◌≤◌, length};
+ghost use Rattle.model.specs.Limits.{max_gates};
+ghost use Rattle.blockfile.specs.Held.{gate_arrays, wire_arrays, GateRoom, WireRoom};
+ghost use Rattle.loading.specs.Loads.{Loads};
 
-use block::HeldBlock;
-use blockfile::read::read_block;
+use blockfile::read::{BlockHead, read_block};
 use model::Refusal;
 use model::limits::GATES_SQUARED;
 use network::judge_network;
 use ordering::wires::Wires;
 
-// Loads the block of a file, with an order of its gates along the wires, whose others are as before; or answers the first refusal of 1 to 9.
-// What the other arrays hold beyond the block's gates, steps and wires is free, and after a refusal what the block holds. For the calls above.
-// The block is lent, since one that is handed back is copied.
-pub fn load(file: &[u8], block: &mut HeldBlock) -> Result<(), Refusal>
-    ensures { Loads file.now result block.old block.new }
+// Reads the file into the arrays and judges its network; the first elements of `order`, as many as there are gates, are then an order of the gates along the wires, its others as before.
+// What the other arrays hold beyond the block's gates, steps and wires is free, and after a refusal what any array holds. `HeldBlock::load` lends it the arrays of a held block.
+// Nine slices, for the reason that stands beside `read_block`.
+pub fn load(
+    file: &[u8],
+    delays: &mut [u32],
+    activities: &mut [u32],
+    counts: &mut [u32],
+    step_widths: &mut [u32],
+    drops: &mut [u32],
+    sources: &mut [u32],
+    targets: &mut [u32],
+    wire_delays: &mut [u32],
+    order: &mut [u32],
+) -> Result<BlockHead, Refusal>
+    requires gate_room { GateRoom (gate_arrays delays.old activities.old counts.old step_widths.old drops.old) }
+    requires wire_room { WireRoom (wire_arrays sources.old targets.old wire_delays.old) }
+    requires order_room { max_gates ≤ length order.old }
+    ensures { Loads file.now result (gate_arrays delays.new activities.new counts.new step_widths.new drops.new) (wire_arrays sources.new targets.new wire_delays.new) order.old order.new }
 {
     let mut seen = [0u8; GATES_SQUARED];
     let head = read_block(
         file,
-        &mut block.delays,
-        &mut block.activities,
-        &mut block.counts,
-        &mut block.step_widths,
-        &mut block.drops,
-        &mut block.sources,
-        &mut block.targets,
-        &mut block.wire_delays,
+        delays,
+        activities,
+        counts,
+        step_widths,
+        drops,
+        sources,
+        targets,
+        wire_delays,
         &mut seen,
     )?;
-    // Not `block.wires()`: `block.order` is lent to be written at the same time.
     let wires = Wires {
         count: head.wires,
-        sources: &block.sources,
-        targets: &block.targets,
-        delays: &block.wire_delays,
+        sources,
+        targets,
+        delays: wire_delays,
     };
-    judge_network(head.gates, wires, &mut block.order)?;
-    block.gates = head.gates;
-    block.wires = head.wires;
-    block.arrival = head.arrival;
-    block.deadline = head.deadline;
-    block.activity = head.activity;
-    Ok(())
+    judge_network(head.gates, wires, order)?;
+    Ok(head)
 }

@@ -8,7 +8,6 @@ ghost use Rattle.printing.specs.PrintoutIn.{PrintoutIn};
 use crate::held::print_held;
 use blocktext::refusal::print_refusal;
 use loading::block::HeldBlock;
-use loading::load;
 use model::limits::MAX_GATES;
 use text::lines::{GATE_ROOM, HEAD_ROOM};
 
@@ -23,7 +22,7 @@ pub fn printout(file: &[u8], out: &mut [u8]) -> usize
         return 0;
     }
     let mut block = HeldBlock::EMPTY;
-    match load(file, &mut block) {
+    match block.load(file) {
         Err(refusal) => print_refusal(refusal, out),
         Ok(()) => print_held(&block, out),
     }

@@ -2,7 +2,6 @@
 ghost use Rattle.model.specs.Answer.{AnswersCurve, CurveBounds, curve_answer};
 
 use loading::block::HeldBlock;
-use loading::load;
 use model::{CurveFound, Refusal};
 use rooms::curve::curve_with_room;
 
@@ -12,6 +11,6 @@ pub fn curve(file: &[u8], widths: &mut [u32], gains: &mut [u64]) -> Result<Curve
     ensures curve_bounds { CurveBounds result gains.new }
 {
     let mut block = HeldBlock::EMPTY;
-    load(file, &mut block)?;
+    block.load(file)?;
     curve_with_room(&block, widths, gains)
 }

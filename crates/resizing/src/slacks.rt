@@ -2,7 +2,6 @@
 ghost use Rattle.model.specs.Answer.{AnswersSlacks, slacks_answer};
 
 use loading::block::HeldBlock;
-use loading::load;
 use model::Refusal;
 use rooms::slacks::slacks_with_room;
 
@@ -11,6 +10,6 @@ pub fn slacks(file: &[u8], out: &mut [i32]) -> Result<usize, Refusal>
     ensures { AnswersSlacks file.now out.old (record { answer = slacks_answer result; memory = out.new }) }
 {
     let mut block = HeldBlock::EMPTY;
-    load(file, &mut block)?;
+    block.load(file)?;
     slacks_with_room(&block, out)
 }

@@ -1,4 +1,4 @@
--- What a block whose tree stands in words gives the functions of sizing: all that they ask, and what their results are to the block.
+-- What a block whose tree is planted gives the functions of sizing: all that they ask, and what their results are to the block.
 -- Assumes nothing.
 use mathlib.Core.Path.{◌≡◌, refl, sym, ◌∙◌, ap}
 use mathlib.Core.List.{List, [], ◌∷◌, map}

@@ -9,4 +9,4 @@ pub returns-clause-answers_curve : goal.returns-clause-answers_curve
 returns-clause-answers_curve c = c.curve_with_room.ensures.curve c.args.file.now _ _ c.in_ok-load.ensures.0
 
 pub curve_with_room-requires : goal.curve_with_room-requires
-curve_with_room-requires c = (c.args.file.now, c.load.new.block.arrival, c.load.new.block.deadline, c.in_ok-load.ensures.0)
+curve_with_room-requires c = (c.args.file.now, c.load.new.self.arrival, c.load.new.self.deadline, c.in_ok-load.ensures.0)
