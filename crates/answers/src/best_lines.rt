@@ -8,7 +8,7 @@ use loading::block::HeldBlock;
 use model::{BestFound, Refusal};
 use planting::tree::Tree;
 use shaping::plant::plant_block;
-use spending::tree::tree_increases;
+use spending::tree::{PlantedSteps, tree_increases};
 
 // The best increases of the block, to the front of the slice.
 // Public for the crates above only: they have shown that the block is a well-formed file's.
@@ -27,15 +27,18 @@ pub fn best_held(block: &HeldBlock, increases: &mut [u32]) -> Result<BestFound, 
         return Err(Refusal::Late);
     }
     let inputs = input_activities_of(block);
+    let steps = PlantedSteps {
+        tree: &tree,
+        counts: &block.counts,
+        step_widths: &block.step_widths,
+        drops: &block.drops,
+        inputs: &inputs,
+        delays: &block.delays[..n],
+    };
     let saving = tree_increases(
         deadline - (arrival + start),
         n as u32,
-        &tree,
-        &block.counts,
-        &block.step_widths,
-        &block.drops,
-        &inputs,
-        &block.delays[..n],
+        steps,
         &mut increases[..n],
     );
     Ok(BestFound { saving, gates: n })

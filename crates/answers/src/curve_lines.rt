@@ -10,7 +10,7 @@ use model::limits::MAX_GATES;
 use model::{CurveFound, Refusal};
 use planting::tree::Tree;
 use shaping::plant::plant_block;
-use spending::tree::tree_curve;
+use spending::tree::{PlantedSteps, tree_curve};
 
 // The curve of the block, whatever its arrival and deadline: its pairs to the front of the two slices.
 // Public for the crates above only: they have shown that the block, with some arrival and deadline, is a well-formed file's.
@@ -30,18 +30,15 @@ pub fn curve_held(
     let start = start_of(block);
     let inputs = input_activities_of(block);
     let mut increases = [0u32; MAX_GATES];
-    let curve = tree_curve(
-        n as u32,
-        &tree,
-        &block.counts,
-        &block.step_widths,
-        &block.drops,
-        &inputs,
-        &block.delays[..n],
-        &mut increases[..n],
-        widths,
-        gains,
-    );
+    let steps = PlantedSteps {
+        tree: &tree,
+        counts: &block.counts,
+        step_widths: &block.step_widths,
+        drops: &block.drops,
+        inputs: &inputs,
+        delays: &block.delays[..n],
+    };
+    let curve = tree_curve(n as u32, steps, &mut increases[..n], widths, gains);
     Ok(CurveFound {
         start,
         at_start: curve.saving,

@@ -8,7 +8,7 @@ use ordering::wires::Wires;
 use planting::tree::Tree;
 use planting::{plant, plant_lone};
 use reduction::{Reduction, reduce_network};
-pub use slots::NotSeriesParallel;
+use slots::NotSeriesParallel;
 
 // The tree of a block of n gates, planted: answers its number of nodes, the last of which is the top. Nodes beyond are as before, and so is the whole tree where the block is not series-parallel.
 // Public for the crates above only: they have shown that the wires are those of a sound network.

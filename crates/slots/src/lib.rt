@@ -1,5 +1,5 @@
 // The slots that hold the wires left while a block is reduced: the search for a slot by its two gates, slots that become one, the nodes of the tree, and the answer by the only slot that is live at the end.
-// Public for `reduction` alone, `TreeNodes` and `NotSeriesParallel` also for `shaping`.
+// Public for `reduction` alone, `TreeNodes` also for `shaping`, and `NotSeriesParallel` with its refusal also for `shaping` and `answers`.
 #![tactic(auto)]
 
 pub mod finish;

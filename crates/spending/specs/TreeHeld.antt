@@ -20,6 +20,7 @@ use Rattle.sizing.specs.Raise.{root, delays_in}
 use Rattle.sizing.specs.Pairs.{Spent}
 use Rattle.sizing.proofs.Blocks.{Held}
 use Rattle.spending.specs.declared.tree.TreeCurve.{TreeCurve}
+use Rattle.spending.specs.declared.tree.PlantedSteps.{PlantedSteps}
 
 -- What stands while ticks are handed out: the tree's nodes with their parents, the gates' steps, input activities and delays.
 pub record TreeArrays : Type 0 where
@@ -42,6 +43,10 @@ tree_arrays tree counts step_widths drops inputs delays =
       inputs = inputs;
       delays = delays;
     }
+
+-- the same of what is lent together
+abbrev pub arrays_lent : PlantedSteps → TreeArrays
+arrays_lent s = tree_arrays s.tree.now s.counts.now s.step_widths.now s.drops.now s.inputs.now s.delays.now
 
 -- The block B of n gates, within the limits of a file, with its tree, is in the arrays.
 pub record TreeHeld (B : Block) (n : ℕ) (A : TreeArrays) : Type 0 where

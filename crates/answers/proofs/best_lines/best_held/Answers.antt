@@ -37,13 +37,10 @@ pub overflow_cast-n : goal.overflow_cast-n
 overflow_cast-n c = omega (arith, (the_lent c.requires.held.1).gates)
 
 pub slice_bounds-tree_increases-end : goal.slice_bounds-tree_increases-end
-slice_bounds-tree_increases-end c = sym (length-take-le _ _ (omega (arith, c.requires.held.1.delays_long, (the_lent c.requires.held.1).gates)))
+slice_bounds-tree_increases-end c = c.requires.room
 
 pub slice_bounds-tree_increases-end-2 : goal.slice_bounds-tree_increases-end-2
-slice_bounds-tree_increases-end-2 c = c.requires.room
-
-pub slice_bounds-tree_increases-end-3 : goal.slice_bounds-tree_increases-end-3
-slice_bounds-tree_increases-end-3 c = sym (length-take-le _ _ c.requires.room)
+slice_bounds-tree_increases-end-2 c = sym (length-take-le _ _ c.requires.room)
 
 pub tree_increases-saving-requires : goal.tree_increases-saving-requires
 tree_increases-saving-requires c =
@@ -57,8 +54,8 @@ returns c =
     let t = tree_held h (c.in_ok-plant_block.ensures.planted (block h) (rw (w.count, w.sources, w.targets, w.delays) (given h))) _ c.input_activities_of-inputs.ensures.long c.input_activities_of-inputs.ensures.activities (c.start_of-start.ensures.start _ _) c.start_of-start.ensures.small in
     best_line h t.fits (c.start_of-start.ensures.start _ _) c.if-deadline-arrival.false (c.tree_increases-saving.ensures (block h) t) (in_front _ _ _ (c.tree_increases-saving.auto.increases ∙ length-take-le _ _ c.requires.room))
 
-pub shared_ref_as_front-tree_increases : goal.shared_ref_as_front-tree_increases
-shared_ref_as_front-tree_increases c = (the_lent c.requires.held.1).gates
+pub shared_ref_as_front-steps : goal.shared_ref_as_front-steps
+shared_ref_as_front-steps c = (the_lent c.requires.held.1).gates
 
 pub input_activities_of-inputs-requires : goal.input_activities_of-inputs-requires
 input_activities_of-inputs-requires c = (c.requires.held.0, c.args.block.now.arrival, c.args.block.now.deadline, c.requires.held.1)

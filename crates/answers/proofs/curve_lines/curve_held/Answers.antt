@@ -24,14 +24,11 @@ returns-in_err-plant_block c =
 pub overflow_cast-n : goal.overflow_cast-n
 overflow_cast-n c = omega (arith, (the_lent c.requires.held.3).gates)
 
-pub slice_bounds-tree_curve-end : goal.slice_bounds-tree_curve-end
-slice_bounds-tree_curve-end c = sym (length-take-le _ _ (omega (arith, c.requires.held.3.delays_long, (the_lent c.requires.held.3).gates)))
-
 pub slice_bounds-increases-end : goal.slice_bounds-increases-end
 slice_bounds-increases-end c = omega (arith, (the_lent c.requires.held.3).gates)
 
-pub slice_bounds-tree_curve-end-2 : goal.slice_bounds-tree_curve-end-2
-slice_bounds-tree_curve-end-2 c = sym (length-take-le _ _ (omega (arith, (the_lent c.requires.held.3).gates)))
+pub slice_bounds-tree_curve-end : goal.slice_bounds-tree_curve-end
+slice_bounds-tree_curve-end c = sym (length-take-le _ _ (omega (arith, (the_lent c.requires.held.3).gates)))
 
 pub tree_curve-curve-requires : goal.tree_curve-curve-requires
 tree_curve-curve-requires c =
@@ -57,5 +54,5 @@ returns c =
           curve_bounds t (c.tree_curve-curve.ensures (block c.requires.held.3) t);
     }
 
-pub shared_ref_as_front-tree_curve : goal.shared_ref_as_front-tree_curve
-shared_ref_as_front-tree_curve c = (the_lent c.requires.held.3).gates
+pub shared_ref_as_front-steps : goal.shared_ref_as_front-steps
+shared_ref_as_front-steps c = (the_lent c.requires.held.3).gates
