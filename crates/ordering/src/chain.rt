@@ -19,10 +19,13 @@ impl Chains {
         requires to_gates { (i : ℕ) → i < m → get_or ends.now i 0 < max_gates }
         ensures { Chained ends.now m result.heads result.links }
     {
-        let mut heads = [0u32; MAX_GATES];
-        let mut links = [0u32; MAX_WIRES];
-        chain_wires(m, ends, &mut heads, &mut links);
-        Chains { heads, links }
+        // Filled where they stand: arrays that are put into the struct are copied.
+        let mut chains = Chains {
+            heads: [0; MAX_GATES],
+            links: [0; MAX_WIRES],
+        };
+        chain_wires(m, ends, &mut chains.heads, &mut chains.links);
+        chains
     }
 
     // The wire at which the chain of gate g starts: the last one there.
@@ -43,7 +46,7 @@ impl Chains {
 }
 
 // The wire that an element of the chains names.
-fn wire_at(link: u32) -> Option<usize>
+pub fn wire_at(link: u32) -> Option<usize>
     ensures { link_to result ≡ link }
 {
     (link as usize).checked_sub(1)

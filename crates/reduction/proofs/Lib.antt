@@ -6,3 +6,4 @@ pub mod QueueLaws
 pub mod TurnLaws
 pub mod LayLaws
 pub mod FinishLaws
+pub mod TreeLaws

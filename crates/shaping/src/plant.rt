@@ -7,7 +7,7 @@ ghost use Rattle.shaping.specs.PlantedBlock.{Given, WiresLong, PlantedOrNot};
 use ordering::wires::Wires;
 use planting::tree::Tree;
 use planting::{plant, plant_lone};
-use reduction::{Reduction, reduce_network};
+use reduction::Reduction;
 use slots::NotSeriesParallel;
 
 // The tree of a block of n gates, planted: answers its number of nodes, the last of which is the top. Nodes beyond are as before, and so is the whole tree where the block is not series-parallel.
@@ -19,7 +19,7 @@ pub fn plant_block(n: usize, wires: Wires, tree: &mut Tree) -> Result<usize, Not
     ensures planted { (B : Block) → Given B n wires.entry.count wires.entry.sources.now wires.entry.targets.now wires.entry.delays.now → PlantedOrNot B result tree.old tree.new }
 {
     let mut reduction = Reduction::EMPTY;
-    match reduce_network(n, wires, &mut reduction)? {
+    match reduction.reduce_network(n, wires)? {
         None => Ok(plant_lone(0, tree)),
         Some(root) => Ok(plant(
             root,

@@ -2,6 +2,7 @@
 // Public for `reduction` alone, `TreeNodes` also for `shaping`, and `NotSeriesParallel` with its refusal also for `shaping` and `answers`.
 #![tactic(auto)]
 
+pub mod chain;
 pub mod finish;
 pub mod merge;
 pub mod nodes;

@@ -1,10 +1,10 @@
 // The slots at the start, the slot from one gate to another, and slots that become one.
 ghost use Rattle.std.specs.Prelude.{◌≡◌, ℕ, ◌^◌, ◌≤◌, ◌<◌, length, get_or, set};
-ghost use Rattle.lists.specs.Search.{Says};
 ghost use Rattle.model.specs.Limits.{max_gates, max_wires};
 ghost use Rattle.slots.specs.Sought.{Found, Leads};
 
 use crate::Slots;
+use crate::chain::{ChainedSlots, remember, slot_between};
 use crate::wires::ChainedWires;
 use model::limits::{MAX_GATES, MAX_WIRES};
 
@@ -24,34 +24,12 @@ impl Slots {
         ensures all_top { (i : ℕ) → i < k → get_or self.new.top i 0 ≡ i }
         ensures room { (length self.new.live ≡ max_wires) × (length self.new.to ≡ max_wires) × (length self.new.top ≡ max_wires) }
     {
+        // Slot by slot: whole slices copied here become calls of memmove, a name that the archive for C would need from outside.
         for i in 0..k {
+            self.live[i] = 1;
+            self.to[i] = targets[i];
             self.top[i] = i as u32;
         }
-        self.live[..k].fill(1);
-        self.to[..k].copy_from_slice(&targets[..k]);
-    }
-
-    // Whether slot i is live and leads from a to b.
-    fn leads(&self, wires: &ChainedWires, i: usize, a: u32, b: u32) -> bool
-        requires { i < wires.now.count }
-        ensures { Says (Leads self.now.live wires.now.sources.now self.now.to a b i) result }
-    {
-        self.live[i] == 1 && wires.sources[i] == a && self.to[i] == b
-    }
-
-    // The slot that leads from a to b, looked for in the chain of the slots that leave a.
-    fn in_chain(&self, wires: &ChainedWires, a: u32, b: u32) -> Option<usize>
-        requires { a < max_gates }
-        ensures { Found (Leads self.now.live wires.now.sources.now self.now.to a b) wires.now.count result }
-    {
-        let mut next = wires.chains.first(a as usize);
-        while let Some(i) = next {
-            if self.leads(wires, i, a, b) {
-                return Some(i);
-            }
-            next = wires.chains.next(i);
-        }
-        None
     }
 
     // The slot that leads from a to b. The slot remembered for a is tried first; whatever it is, the answer is the same.
@@ -59,11 +37,15 @@ impl Slots {
         requires { a < max_gates }
         ensures { Found (Leads self.now.live wires.now.sources.now self.now.to a b) wires.now.count result }
     {
-        let l = self.recent[a as usize] as usize;
-        if l < wires.count && self.leads(wires, l, a, b) {
-            return Some(l);
-        }
-        self.in_chain(wires, a, b)
+        let slots = ChainedSlots {
+            count: wires.count,
+            live: &self.live,
+            from: wires.sources,
+            to: &self.to,
+            heads: &wires.chains.heads,
+            links: &wires.chains.links,
+        };
+        slot_between(slots, &self.recent, a, b)
     }
 
     // Slots i and j become one in i's place, of node c; it leaves gate a.
@@ -77,7 +59,7 @@ impl Slots {
         self.live[j] = 0;
         self.to[i] = self.to[j];
         self.top[i] = c;
-        self.recent[a as usize] = i as u32;
+        remember(&mut self.recent, a, i);
     }
 
     // Slot l, of node c now, takes up slots i and j; it leaves gate a.
@@ -91,6 +73,6 @@ impl Slots {
         self.live[i] = 0;
         self.live[j] = 0;
         self.top[l] = c;
-        self.recent[a as usize] = l as u32;
+        remember(&mut self.recent, a, l);
     }
 }

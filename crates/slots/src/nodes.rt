@@ -35,8 +35,11 @@ impl TreeNodes {
         ensures room { let most = max_wires + (max_gates + max_gates) in (length self.new.kind ≡ most) × (length self.new.left ≡ most) × (length self.new.gate ≡ most) × (length self.new.right ≡ most) }
     {
         self.count = k;
-        self.kind[..k].fill(0);
-        self.gate[..k].copy_from_slice(&delays[..k]);
+        // Node by node, as `Slots::lay`.
+        for i in 0..k {
+            self.kind[i] = 0;
+            self.gate[i] = delays[i];
+        }
     }
 
     // One node more.

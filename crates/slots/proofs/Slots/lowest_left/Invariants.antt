@@ -1,6 +1,0 @@
--- `slots::Slots::lowest_left` meets its contract. The loop's invariant: g is the lowest gate to which a live slot below i leads, or last. Assumes nothing.
-use Rattle.slots.specs.Sought.{LowestLed}
-use Rattle.slots.proofs.Slots.lowest_left.Given as goal
-
-abbrev pub invariant-loop-i : goal.invariant-loop-i
-invariant-loop-i l = LowestLed l.self.live l.self.to l.i l.last l.g
