@@ -8,7 +8,7 @@ use planting::MAX_NODES;
 use ties::{Head, gain_in};
 
 // A head for each gate and for each node.
-#[derive(Drop)]
+#[derive(Clone, Copy)]
 pub struct Heads {
     pub gates: [Head; MAX_GATES],
     pub nodes: [Head; MAX_NODES],

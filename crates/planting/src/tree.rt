@@ -15,7 +15,7 @@ pub struct Node {
     pub parent: u32,
 }
 
-#[derive(Drop)]
+#[derive(Clone, Copy)]
 pub struct Tree {
     pub count: usize,
     pub nodes: [Node; MAX_NODES],
