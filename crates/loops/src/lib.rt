@@ -48,7 +48,13 @@ fn first_paired(n: usize, square: &[u8; GATES_SQUARED]) -> Option<usize>
     requires { n ≤ max_gates }
     ensures { LowestBelow (λ (g : ℕ). Paired square.now g g) n result }
 {
-    (0..n).find(|&g| square[g * MAX_GATES + g] != 0)
+    // Gate by gate, and not by `find`: the edit that names the highest shows the promise here, and with `find` the iterator alone.
+    for g in 0..n {
+        if square[g * MAX_GATES + g] != 0 {
+            return Some(g);
+        }
+    }
+    None
 }
 
 // The lowest gate that reaches itself.

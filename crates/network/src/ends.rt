@@ -31,7 +31,13 @@ fn first_faulty(n: usize, ins: &[u8; MAX_GATES], outs: &[u8; MAX_GATES]) -> Opti
     requires { n ≤ max_gates }
     ensures { LowestBelow (Faulty n ins.now outs.now) n result }
 {
-    (0..n).find(|&g| faulty(n, g, ins, outs))
+    // Gate by gate, and not by `find`: the edit that names the highest shows the promise here, and with `find` the iterator alone.
+    for g in 0..n {
+        if faulty(n, g, ins, outs) {
+            return Some(g);
+        }
+    }
+    None
 }
 
 // The lowest gate at fault with its wires: gate 0 must have no wire in, gate n - 1 none out, every other gate both.
